@@ -1,0 +1,2 @@
+// What became of a call file, line by line.
+pub mod report;

@@ -27,6 +27,7 @@ callsThen calls rest = record { calls = calls ++ rest .calls; stop = rest .stop 
 -- what stands at a place, from the bytes there
 decode-at : (file : List ℕ) (place : ℕ) (bytes : List ℕ) → drop place file ≡ bytes → 0 < length bytes →
     decode file place ≡ Some (answered place (firstCall bytes))
+unfolding decode
 decode-at file place bytes e h =
     let l = ap length e in
     let t : ltb place (length file) ≡ true = lt-ltb _ _ (omega (arith, length-drop place file)) in
@@ -35,6 +36,7 @@ decode-at file place bytes e h =
 -- the calls at a place are read, and then what is behind them
 pub reading-over : (file : List ℕ) (place : ℕ) (calls : List Call) (rest : List ℕ) → AllFit calls → drop place file ≡ fileOf calls ++ rest →
     readingFrom file place ≡ callsThen calls (readingFrom file (place + length (fileOf calls)))
+unfolding moved
 reading-over file place [] rest h e = ap (readingFrom file) (sym (add-zero place))
 reading-over file place (call ∷ calls) rest h e =
     let bytes : drop place file ≡ encode call ++ (fileOf calls ++ rest) = e ∙ append-assoc (encode call) (fileOf calls) rest in

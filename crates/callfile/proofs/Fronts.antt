@@ -39,9 +39,9 @@ value-length (t ∷ []) n h = absurd (omega arith)
 value-length (t ∷ a ∷ []) n h = absurd (omega arith)
 value-length (t ∷ a ∷ b ∷ s) n h = length-take-le n s (omega arith)
 
-pub first-is : (s v : List ℕ) → 3 + declared s ≤ length s → v ≡ take (declared s - 0) (take (length s - 3) (drop 3 s)) →
+pub front-is : (s v : List ℕ) → 3 + declared s ≤ length s → v ≡ take (declared s - 0) (take (length s - 3) (drop 3 s)) →
     (front s ≡ Some (tagged (getD s 0 0) v)) × (3 + declared s ≡ length (laid (tagged (getD s 0 0) v)))
-first-is s v h e =
+front-is s v h e =
     let w = e ∙ value-is s (declared s) in
     let l : length v ≡ declared s = ap length w ∙ value-length s (declared s) h in
     (front-at s h ∙ ap (λ x. Some (tagged (getD s 0 0) x)) (sym w), omega arith)

@@ -32,6 +32,7 @@ enough (suc m) (suc n) file place h k =
 
 -- the three laws in one
 pub reading-step : (file : List ℕ) (place : ℕ) → readingFrom file place ≡ goneOn (decode file place) (readingFrom file (moved file place))
+unfolding readingFrom
 reading-step file place = enough (length file) (suc (length file)) file place (omega arith) (omega arith)
 
 pub reading-ends : (file : List ℕ) (place : ℕ) → decode file place ≡ None → readingFrom file place ≡ ended

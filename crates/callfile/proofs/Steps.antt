@@ -23,19 +23,23 @@ use Rattle.callfile.proofs.Fronts.{front-within}
 
 pub decode-is : (file : List ℕ) (place : ℕ) (r : Result (Call × ℕ) Stop) → place < length file →
     r ≡ firstCall (take (length file - place) (drop place file)) → Some (answered place r) ≡ decode file place
+unfolding decode
 decode-is file place r h e =
     let t : ltb place (length file) ≡ true = lt-ltb _ _ h in
     rw t (ap (λ x. Some (answered place x)) (e ∙ ap firstCall (take-rest file place)))
 
 pub moved-is : (file : List ℕ) (place : ℕ) (r : Result (Call × ℕ) Stop) →
     r ≡ firstCall (take (length file - place) (drop place file)) → past place r ≡ moved file place
+unfolding moved
 moved-is file place r e = ap (past place) (e ∙ ap firstCall (take-rest file place))
 
 -- at the end of the file
 pub decode-end : (file : List ℕ) (place : ℕ) → length file ≤ place → decode file place ≡ None
+unfolding decode
 decode-end file place h = let t : ltb place (length file) ≡ false = le-ltb _ _ h in rw t
 
 pub moved-end : (file : List ℕ) (place : ℕ) → length file ≤ place → moved file place ≡ place
+unfolding moved
 moved-end file place h = ap (λ bytes. past place (firstCall bytes)) (drop-all place file h)
 
 -- a call was read from a field, and takes the field's bytes
@@ -55,6 +59,12 @@ heard-size s (Some f) call n e h =
 
 pub call-size : (s : List ℕ) (call : Call) (n : ℕ) → firstCall s ≡ Ok (call, n) → (3 ≤ n) × (n ≤ length s)
 call-size s call n h = heard-size s (front s) call n refl h
+
+pub call-within : (file : List ℕ) (place : ℕ) (call : Call) (size : ℕ) → place < length file →
+    Ok (call, size) ≡ firstCall (take (length file - place) (drop place file)) → place + size ≤ length file
+call-within file place call size h e =
+    let n = call-size (drop place file) call size (sym (e ∙ ap firstCall (take-rest file place))) .1 in
+    omega (arith, length-drop place file)
 
 -- what an answer tells of the test for the end, b, and of the call at the front, r
 module _ (place : ℕ) where
@@ -80,6 +90,7 @@ module _ (place : ℕ) where
 
 pub moved-call : (file : List ℕ) (place : ℕ) (call : Call) → decode file place ≡ Some (Ok call) →
     (place < moved file place) × (moved file place ≤ length file)
+unfolding decode moved
 moved-call file place call e =
     let t = call-from place (ltb place (length file)) (firstCall (drop place file)) call e in
     let before = ltb-true place (length file) (t .1) in
@@ -88,9 +99,11 @@ moved-call file place call e =
     (omega arith, omega (arith, length-drop place file))
 
 pub decode-none : (file : List ℕ) (place : ℕ) → decode file place ≡ None → length file ≤ place
+unfolding decode
 decode-none file place e = ltb-false place (length file) (none-from place _ (firstCall (drop place file)) e)
 
 pub moved-fault : (file : List ℕ) (place : ℕ) (fault : Fault) → decode file place ≡ Some (Err fault) → (fault .place ≡ place) × (moved file place ≡ place)
+unfolding decode moved
 moved-fault file place fault e = fault-from place (ltb place (length file)) (firstCall (drop place file)) fault e
 
 pub place-moves : Place-moves

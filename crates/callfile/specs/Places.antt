@@ -33,8 +33,8 @@ abbrev pub answered : ℕ → Result (Call × ℕ) Stop → Result Call Fault
 answered place (Ok found) = Ok (found .0)
 answered place (Err stop) = Err (record { stop = stop; place = place })
 
--- what a reader at a place answers: none at the end of the file
-abbrev pub decode : List ℕ → ℕ → Option (Result Call Fault)
+-- what a reader at a place answers: none at the end of the file (it stays shut, as `moved` does, since its laws suffice)
+unfoldable pub decode : List ℕ → ℕ → Option (Result Call Fault)
 decode file place = cond (ltb place (length file)) (Some (answered place (firstCall (drop place file)))) None
 
 abbrev pub past : ℕ → Result (Call × ℕ) Stop → ℕ
@@ -42,5 +42,5 @@ past place (Ok found) = place + found .1
 past place (Err stop) = place
 
 -- where it stands then: behind the call's field, or where it was
-abbrev pub moved : List ℕ → ℕ → ℕ
+unfoldable pub moved : List ℕ → ℕ → ℕ
 moved file place = past place (firstCall (drop place file))

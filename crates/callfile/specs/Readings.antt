@@ -35,8 +35,8 @@ abbrev pub readingBy : ℕ → List ℕ → ℕ → Reading
 readingBy zero file place = ended
 readingBy (suc more) file place = goneOn (decode file place) (readingBy more file (moved file place))
 
--- from a place to the end: each field has three bytes at least, so there are no more fields than bytes
-abbrev pub readingFrom : List ℕ → ℕ → Reading
+-- from a place to the end: each field has three bytes at least, so as many answers as bytes suffice
+unfoldable pub readingFrom : List ℕ → ℕ → Reading
 readingFrom file place = readingBy (length file) file place
 
 abbrev pub reading : List ℕ → Reading

@@ -1,6 +1,5 @@
 // Reads calls in place from the bytes of a call file.
 pub mod call;
-pub mod decode;
 pub mod field;
 pub mod laws;
 pub mod reader;

@@ -2,7 +2,6 @@
 ghost use mathlib.Core.Path.{_≡_};
 ghost use Rattle.callfile.specs.Places.{firstCall, decode, moved};
 use crate::call::Call;
-use crate::decode::call_of;
 use crate::field::Field;
 use rules::refusal::Fault;
 use rules::refusal::Stop;
@@ -12,7 +11,7 @@ fn first_call(bytes: &[u8]) -> Result<(Call, usize), Stop>
     ensures { λ r. ⌜ r ≡ firstCall (now (bytes .entry)) ⌝ }
 {
     let field = Field::front(bytes).ok_or(Stop::CutShort)?;
-    let call = call_of(field.tag, field.value)?;
+    let call = Call::of(field.tag, field.value)?;
     Ok((call, field.size))
 }
 

@@ -2,8 +2,9 @@
 use mathlib.Core.Path.{_≡_, refl, sym, ap, _∙_}
 use mathlib.Core.Bool.{Bool, true, false, cond}
 use mathlib.Core.List.{List, [], _∷_}
-use Prim.Native.Nat.{ℕ, _+_, _≤_, _<_}
+use Prim.Native.Nat.{ℕ, zero, suc, _+_, _≤_, _<_}
 use native.Mathlib.Nat.{add-zero, zero-add, add-comm, add-assoc}
+use native.Mathlib.Numerals.{add-one}
 use native.Mathlib.Omega.{arith}
 use lib.ListN.{length, drop, getD}
 use Rattle.std.proofs.shelf.Lists.{at-drop-more, at-drop-all}
@@ -12,7 +13,7 @@ use Rattle.std.specs.declared.option.Option.{Option}
 use Rattle.std.specs.declared.option.Option.the-variants.{Some, None}
 use Rattle.std.specs.Options.{mapped}
 use Rattle.std.specs.Orderings.{isEq, isLt}
-use Rattle.ranked.specs.Order.{behind, found}
+use Rattle.ranked.specs.Order.{behind, found, FirstLevel}
 
 module _ {X : Type 0} (cmp : X → X → Ordering) (x : X) where
   step : (xs : List X) (i : ℕ) (y : X) (b : Bool) → i < length xs → y ≡ getD xs i y → b ≡ isLt (cmp x y) → behind cmp x (drop i xs) ≡ cond b 0 (behind cmp x (drop (i + 1) xs) + 1)
@@ -60,3 +61,20 @@ module _ {X : Type 0} (cmp : X → X → Ordering) (x : X) where
   -- none is
   pub found-all : (xs : List X) (i : ℕ) → length xs ≡ i → onward i (found cmp x (drop i xs)) ≡ found cmp x xs → None ≡ found cmp x xs
   found-all xs i e inv = sym (ap (onward i) (at-drop-all (found cmp x) xs i (omega arith))) ∙ inv
+
+  one-more : (y : X) (ys : List X) (i : ℕ) → isEq (cmp x y) ≡ false → ((k : ℕ) (d : X) → k < i → isEq (cmp x (getD ys k d)) ≡ false) → (k : ℕ) (d : X) → k < i + 1 → isEq (cmp x (getD (y ∷ ys) k d)) ≡ false
+  one-more y ys i e h zero d l = e
+  one-more y ys i e h (suc k) d l = h k d (omega arith)
+
+  found-behind : (y : X) (ys : List X) (o : Option ℕ) → isEq (cmp x y) ≡ false → FirstLevel cmp x ys o → FirstLevel cmp x (y ∷ ys) (mapped (λ n. n + 1) o)
+  found-behind y ys None e h = λ k d l. one-more y ys (length ys) e h k d (omega arith)
+  found-behind y ys (Some i) e h = (omega (arith, h .0), (rw add-one (h .1 .0), one-more y ys i e (h .1 .1)))
+
+  found-at : (y : X) (ys : List X) (b : Bool) → isEq (cmp x y) ≡ b → FirstLevel cmp x ys (found cmp x ys) → FirstLevel cmp x (y ∷ ys) (cond b (Some 0) (mapped (λ n. n + 1) (found cmp x ys)))
+  found-at y ys true e ih = (omega arith, ((λ d. e), (λ k d l. absurd (omega arith))))
+  found-at y ys false e ih = found-behind y ys (found cmp x ys) e ih
+
+  -- what `found` says
+  pub found-first : (xs : List X) → FirstLevel cmp x xs (found cmp x xs)
+  found-first [] = λ k d l. absurd (omega arith)
+  found-first (y ∷ ys) = found-at y ys (isEq (cmp x y)) refl (found-first ys)

@@ -37,6 +37,12 @@ abbrev pub found : {X : Type 0} → (X → X → Ordering) → X → List X → 
 found cmp x [] = None
 found cmp x (y ∷ ys) = cond (isEq (cmp x y)) (Some 0) (mapped (λ n. n + 1) (found cmp x ys))
 
+-- what is found is level with x, and nothing in front of it is; where nothing is found, nothing is level with x
+abbrev pub FirstLevel : {X : Type 0} → (X → X → Ordering) → X → List X → Option ℕ → Type 0
+FirstLevel {X} cmp x xs None = (k : ℕ) (d : X) → k < length xs → isEq (cmp x (getD xs k d)) ≡ false
+FirstLevel {X} cmp x xs (Some i) =
+    (i < length xs) × (((d : X) → isEq (cmp x (getD xs i d)) ≡ true) × ((k : ℕ) (d : X) → k < i → isEq (cmp x (getD xs k d)) ≡ false))
+
 -- of any two records the one in front does not stand after the one behind
 abbrev pub InOrder : {X : Type 0} → (X → X → Ordering) → List X → Type 0
 InOrder {X} cmp xs = (i j : ℕ) (d : X) → (i < j) × (j < length xs) → isGt (cmp (getD xs i d) (getD xs j d)) ≡ false

@@ -75,3 +75,10 @@ module _ (ended : Bool) (goes : ended ≡ false) (file : List ℕ) (place : ℕ)
   call-nearer file′ place′ c same went d =
       let w = call-within place′ c went d in
       omega (arith, is-open file place, is-open file′ place′, ap length same, w)
+
+-- at the end and at a fault the reader stays where it is
+pub stays-at-end : (file : List ℕ) (place place′ : ℕ) → place′ ≡ moved file place → None ≡ decode file place → place′ ≡ place
+stays-at-end file place place′ went d = went ∙ place-moves file place .rests (sym d)
+
+pub stays-at-fault : (file : List ℕ) (place place′ : ℕ) (fault : Fault) → place′ ≡ moved file place → Some (Err fault) ≡ decode file place → place′ ≡ place
+stays-at-fault file place place′ fault went d = went ∙ place-moves file place .stays fault (sym d)

@@ -1,7 +1,7 @@
 // What a table answers.
 ghost use lib.ListN.{length};
 ghost use mathlib.Core.Path.{_≡_};
-ghost use Rattle.ranked.specs.Order.{found};
+ghost use Rattle.ranked.specs.Order.{found, FirstLevel};
 ghost use Rattle.ranked.specs.Table.{listed};
 use crate::rank::Rank;
 use crate::table::OrderedTable;
@@ -22,7 +22,8 @@ impl<T: Rank + Drop> OrderedTable<T> {
 
     // The place of the first record that is level with `x`.
     pub fn place_of(&self, x: &T) -> Option<usize>
-        ensures { λ r. ⌜ r ≡ found ranks (now (x .entry)) (listed (now (self .entry))) ⌝ }
+        ensures value { λ r. ⌜ r ≡ found ranks (now (x .entry)) (listed (now (self .entry))) ⌝ }
+        ensures first { λ r. ⌜ FirstLevel ranks (now (x .entry)) (listed (now (self .entry))) r ⌝ }
     {
         for (i, y) in self.records.iter().enumerate() {
             if x.rank(y).is_eq() {

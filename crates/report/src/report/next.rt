@@ -1,9 +1,9 @@
 // The next line of a report.
 ghost use lib.ListN.{take};
-ghost use mathlib.Core.List.{[], _++_};
+ghost use mathlib.Core.Bool.{true};
 ghost use mathlib.Core.Path.{_≡_};
 ghost use Prim.Native.Nat.{_≤_};
-ghost use Rattle.report.specs.Left.{fileOf, left, answered, written, remaining};
+ghost use Rattle.report.specs.Left.{fileOf, left, isShort, answered, written, remaining};
 ghost use Rattle.report.specs.Statement.{statement};
 ghost use Rattle.std.specs.Options.{Cases as BySome};
 ghost use Rattle.std.specs.Results.{Cases as ByOk};
@@ -48,6 +48,7 @@ impl<'a> Report<'a> {
         ensures answer { λ r. ⌜ r ≡ answered (left (now (self .entry))) (now (memory .entry)) ⌝ }
         ensures fits { λ r. ⌜ ByOk r (λ next. BySome next (Unit {0}) (λ length. length ≤ 32)) (λ _. Unit {0}) ⌝ }
         ensures memory { λ _. ⌜ now (memory .exit) ≡ written (left (now (self .entry))) (now (memory .entry)) ⌝ }
+        ensures kept { λ _. ⌜ (isShort (now (memory .entry)) ≡ true → now (self .exit) ≡ now (self .entry)) ⌝ }
         ensures left { λ _. ⌜ left (now (self .exit)) ≡ remaining (left (now (self .entry))) (now (memory .entry)) ⌝ }
     {
         if memory.len() < 32 {

@@ -1,7 +1,13 @@
 use mathlib.Core.Path.{refl, sym}
+use borrow.Author.Needs.{needs}
 use native.Mathlib.Omega.{arith}
-use Rattle.callfile.proofs.Steps.{decode-is, moved-is, decode-end, moved-end}
+use Rattle.callfile.proofs.Steps.{decode-is, moved-is, decode-end, moved-end, call-within}
 use Rattle.callfile.proofs.reader.Reader.next.Needs as need
+
+pub add-self : need.add-self
+add-self c =
+    let n = call-within (c .args .self .now .file .now) (c .args .self .now .place) (c .in-Ok .call) (c .in-Ok .size) (omega arith) (c .in-Ok .ensures tt) in
+    search needs
 
 pub returns-then-place-self : need.returns-then-place-self
 returns-then-place-self c = record {

@@ -1,10 +1,10 @@
-use mathlib.Core.Path.{_≡_, _∙_, ap}
+use mathlib.Core.Path.{_≡_, _∙_, ap, sym, subst}
 use native.Mathlib.Omega.{arith}
 use lib.ListN.{length}
 use Rattle.std.specs.Of.Vec.{vec-items}
 use Rattle.std.specs.Orderings.{isEq}
-use Rattle.ranked.specs.Order.{found}
-use Rattle.ranked.proofs.Scans.{onward-none, found-here, found-more, found-all}
+use Rattle.ranked.specs.Order.{found, FirstLevel}
+use Rattle.ranked.proofs.Scans.{onward-none, found-here, found-more, found-all, found-first}
 use Rattle.ranked.proofs.table.OrderedTable.place_of.Needs as need
 
 pub loop-i-holds : need.loop-i-holds
@@ -14,8 +14,9 @@ pub returns-then-is-eq : need.returns-then-is-eq
 returns-then-is-eq g c =
     let xs = vec-items (c .args .self .now .records) in
     let e = c .deref-y-items .ensures .value in
-    found-here (g .T·Rank .ranks) (c .args .x .now) xs (c .loop-i .i) (c .y-item .result)
-    (rw e at (c .loop-i-test .taken)) (rw e at (c .y-item .is)) (c .if-is-eq .ensures tt ∙ ap isEq (c .rank .ensures)) (c .loop-i .inv)
+    let is = found-here (g .T·Rank .ranks) (c .args .x .now) xs (c .loop-i .i) (c .y-item .result)
+    (rw e at (c .loop-i-test .taken)) (rw e at (c .y-item .is)) (c .if-is-eq .ensures tt ∙ ap isEq (c .rank .ensures)) (c .loop-i .inv) in
+    record { value = is; first = subst (FirstLevel (g .T·Rank .ranks) (c .args .x .now) xs) (sym is) (found-first (g .T·Rank .ranks) (c .args .x .now) xs) }
 
 pub loop-i-again : need.loop-i-again
 loop-i-again g c =
@@ -28,4 +29,5 @@ pub returns : need.returns
 returns g c =
     let xs = vec-items (c .args .self .now .records) in
     let n : length xs ≡ c .loop-i .i = omega (arith, ap length (c .deref-y-items .ensures .value)) in
-    found-all (g .T·Rank .ranks) (c .args .x .now) xs (c .loop-i .i) n (c .loop-i .inv)
+    let is = found-all (g .T·Rank .ranks) (c .args .x .now) xs (c .loop-i .i) n (c .loop-i .inv) in
+    record { value = is; first = subst (FirstLevel (g .T·Rank .ranks) (c .args .x .now) xs) (sym is) (found-first (g .T·Rank .ranks) (c .args .x .now) xs) }

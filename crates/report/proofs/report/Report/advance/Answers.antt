@@ -6,7 +6,7 @@ use lib.ListN.{length}
 use Rattle.std.specs.declared.option.Option.the-variants.{Some}
 use Rattle.record.specs.Look.{state}
 use Rattle.report.specs.Left.{fileOf}
-use Rattle.report.proofs.Running.{at-end, at-stop, at-call, ends-nearer, call-within, call-nearer}
+use Rattle.report.proofs.Running.{at-end, at-stop, at-call, ends-nearer, call-within, call-nearer, stays-at-end, stays-at-fault}
 use Rattle.report.proofs.report.Report.advance.Needs as need
 
 pub returns-in-rest : need.returns-in-rest
@@ -18,6 +18,20 @@ returns-in-rest c =
       lines = at-end (r .ended) (c .pre) (state (r .ledger)) (r .count) (fileOf r) (r .reader .place) (told .answer);
       nearer = ends-nearer (r .ended) (c .pre) (fileOf r) (r .reader .place);
     }
+
+pub ghost-self : need.ghost-self
+ghost-self c =
+    let r = c .args .self .now in
+    let told = c .in-rest .ensures tt in
+    let same = stays-at-end (fileOf r) (r .reader .place) (c .next .last .self .place) (told .place) (told .answer) in
+    (omega (arith, r .few, same), (omega (arith, r .short, ap length (told .file)), tt))
+
+pub ghost-self-in-Err : need.ghost-self-in-Err
+ghost-self-in-Err c =
+    let r = c .args .self .now in
+    let told = c .in-Some .ensures tt in
+    let same = stays-at-fault (fileOf r) (r .reader .place) (c .next .last .self .place) (c .in-Err .fault) (told .place) (ap Some (sym (c .in-Err .is)) ∙ told .answer) in
+    (omega (arith, r .few, same), (omega (arith, r .short, ap length (told .file)), tt))
 
 pub add-self : need.add-self
 add-self c =

@@ -1,6 +1,6 @@
 use borrow.Author.Needs.{needs}
 use Rattle.callfile.proofs.Bytes.{number-eight}
-use Rattle.callfile.proofs.decode.number64.Needs as need
+use Rattle.callfile.proofs.call.number64.Needs as need
 
 pub returns : need.returns
 returns c = search (needs, number-eight)

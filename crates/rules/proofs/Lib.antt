@@ -4,3 +4,14 @@ pub mod Rolls
 pub mod Steps
 pub mod Histories
 pub mod EveryList
+pub mod Prices
+pub mod Givings
+pub mod Covering
+pub mod Dividing
+pub mod Transfers
+pub mod Credits
+pub mod Best
+pub mod Clearing
+pub mod Marks
+pub mod Soundness
+pub mod Shortness

@@ -6,3 +6,12 @@ pub mod State
 pub mod Calls
 pub mod Laws
 pub mod Questions
+pub mod Amounts
+pub mod Minimums
+pub mod Books
+pub mod Rounds
+pub mod Residuals
+pub mod Fractions
+pub mod RoundLaws
+pub mod FractionLaws
+pub mod Figures

@@ -9,7 +9,7 @@ use Rattle.callfile.specs.declared.call.Call.the-variants.{Enrol, CloseRoll, M
 use Rattle.callfile.specs.Numbers.{numberOf}
 use Rattle.callfile.specs.Calls.{said, encode, callOf, Fits}
 use Rattle.callfile.specs.Places.{heard, measured}
-use Rattle.callfile.specs.Laws.{Short, Reads-back}
+use Rattle.callfile.specs.Laws.{Short, ReadsBack}
 use Rattle.callfile.proofs.Bytes.{number-in, spelling-in}
 use Rattle.callfile.proofs.Fronts.{front-found}
 
@@ -27,6 +27,6 @@ said-short (Enrol name contribution) = omega arith
 said-short CloseRoll = omega arith
 said-short (Multiplier thousandths) = omega arith
 
-pub reads-back : Reads-back
+pub reads-back : ReadsBack
 reads-back call rest h =
     ap heard (front-found (said call) rest (said-short call)) ∙ ap (measured (length (encode call))) (said-back call h)

@@ -14,10 +14,10 @@ use Rattle.callfile.specs.declared.call.Call.the-variants.{Enrol, CloseRoll, M
 use Rattle.callfile.specs.Fields.{tagged, laid}
 use Rattle.callfile.specs.Calls.{said, callOf}
 use Rattle.callfile.specs.Places.{measured, heard}
-use Rattle.callfile.specs.Laws.{Tells-cut, Tells-unknown, Tells-length}
+use Rattle.callfile.specs.Laws.{TellsCut, TellsUnknown, TellsLength}
 use Rattle.callfile.proofs.Fronts.{front-found, front-cut}
 
-pub tells-cut : Tells-cut
+pub tells-cut : TellsCut
 tells-cut field n short part = ap heard (front-cut field n short part)
 
 unknown : (tag : ℕ) (value : List ℕ) → ((call : Call) → said call .tag ≡ tag → ⊥) → callOf tag value ≡ Err UnknownTag
@@ -27,7 +27,7 @@ unknown tag value other =
     let c : eqb tag 8 ≡ false = ne-eqb _ _ (λ e. other (Multiplier 0) (omega arith)) in
     rw (a, b, c)
 
-pub tells-unknown : Tells-unknown
+pub tells-unknown : TellsUnknown
 tells-unknown field rest short other =
     ap heard (front-found field rest short) ∙ ap (measured (length (laid field))) (unknown (field .tag) (field .value) other)
 
@@ -36,7 +36,7 @@ wrong-length (Enrol name contribution) value other = let a : eqb (length value) 
 wrong-length CloseRoll value other = let a : eqb (length value) 0 ≡ false = ne-eqb _ _ other in rw a
 wrong-length (Multiplier thousandths) value other = let a : eqb (length value) 4 ≡ false = ne-eqb _ _ other in rw a
 
-pub tells-length : Tells-length
+pub tells-length : TellsLength
 tells-length call value rest short other =
     ap heard (front-found (tagged (said call .tag) value) rest short)
     ∙ ap (measured (length (laid (tagged (said call .tag) value)))) (wrong-length call value other)

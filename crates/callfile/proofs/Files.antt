@@ -16,7 +16,7 @@ use Rattle.callfile.specs.declared.call.Call.{Call}
 use Rattle.callfile.specs.Calls.{encode}
 use Rattle.callfile.specs.Places.{firstCall, answered, decode, past, moved}
 use Rattle.callfile.specs.Readings.{Reading, callThen, readingFrom}
-use Rattle.callfile.specs.Laws.{fileOf, AllFit, Reads-all, Reads-to-fault}
+use Rattle.callfile.specs.Laws.{fileOf, AllFit, ReadsAll, ReadsToFault}
 use Rattle.callfile.proofs.Backs.{reads-back}
 use Rattle.callfile.proofs.Steps.{decode-end}
 use Rattle.callfile.proofs.Readings.{reading-ends, reading-stops, reading-reads}
@@ -52,13 +52,13 @@ reading-over file place (call ∷ calls) rest h e =
     ∙ (ap (callThen call) (reading-over file (place + length (encode call)) calls rest (h .1) left)
     ∙ ap (λ p. callThen call (callsThen calls (readingFrom file p))) far))
 
-pub reads-all : Reads-all
+pub reads-all : ReadsAll
 reads-all calls h =
     let over = reading-over (fileOf calls) 0 calls [] h (sym (append-nil (fileOf calls))) in
     let end = reading-ends (fileOf calls) (0 + length (fileOf calls)) (decode-end (fileOf calls) (0 + length (fileOf calls)) (omega arith)) in
     over ∙ (ap (callsThen calls) end ∙ ap (λ c. record { calls = c; stop = None }) (append-nil calls))
 
-pub reads-to-fault : Reads-to-fault
+pub reads-to-fault : ReadsToFault
 reads-to-fault calls bad why h n e =
     let over = reading-over (fileOf calls ++ bad) 0 calls bad h refl in
     let here = decode-at (fileOf calls ++ bad) (length (fileOf calls)) bad (drop-append-seam (fileOf calls) bad) n ∙ ap (λ r. Some (answered (length (fileOf calls)) r)) e in

@@ -13,7 +13,7 @@ use Rattle.std.proofs.shelf.Tests.{le-leb, lt-leb}
 use Rattle.std.specs.declared.option.Option.the-variants.{Some, None}
 use Rattle.callfile.specs.Numbers.{numberOf}
 use Rattle.callfile.specs.Fields.{Tagged, tagged, front, laid}
-use Rattle.callfile.specs.Laws.{Field-found, Field-cut}
+use Rattle.callfile.specs.Laws.{FieldFound, FieldCut}
 use Rattle.callfile.proofs.Bytes.{number-two, number-in}
 
 -- the length that a field at the front of these bytes declares
@@ -50,7 +50,7 @@ front-is s v h e =
 length-bytes : (n : ℕ) → n < 2 ^ 16 → numberOf (n / 256 % 256 ∷ n % 256 ∷ []) ≡ n
 length-bytes n h = number-in 2 n h
 
-pub front-found : Field-found
+pub front-found : FieldFound
 front-found f rest h =
     let e = length-bytes (length (f .value)) h in
     let k : leb (length (f .value)) (length (f .value ++ rest)) ≡ true = le-leb _ _ (omega (arith, length-append (f .value) rest)) in
@@ -64,7 +64,7 @@ cut-behind t a b v (suc (suc (suc n))) e h =
     let k : leb (length v) (length (take n v)) ≡ false = lt-leb _ _ (omega (arith, length-take n v)) in
     rw (e, k)
 
-pub front-cut : Field-cut
+pub front-cut : FieldCut
 front-cut f n h k = cut-behind (f .tag) _ _ (f .value) n (length-bytes (length (f .value)) h) (omega arith)
 
 -- a field that was found has all its bytes there

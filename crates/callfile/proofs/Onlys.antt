@@ -26,7 +26,7 @@ use Rattle.callfile.specs.Numbers.{numberOf, inBytes}
 use Rattle.callfile.specs.Fields.{Tagged, tagged, laid, front}
 use Rattle.callfile.specs.Calls.{said, encode, Fits, sized, callOf}
 use Rattle.callfile.specs.Places.{heard}
-use Rattle.callfile.specs.Laws.{Reads-only}
+use Rattle.callfile.specs.Laws.{ReadsOnly}
 use Rattle.callfile.proofs.Bytes.{in-number, spelling-in}
 use Rattle.callfile.proofs.Steps.{measured-is}
 
@@ -119,5 +119,5 @@ heard-only s (Some f) call size u e h =
     let l : laid f ≡ encode call = ap laid (sym (c .0)) in
     (ap (λ n. take n s) (m .0) ∙ (b .0 ∙ l), m .0 ∙ ap length l, c .1)
 
-pub reads-only : Reads-only
+pub reads-only : ReadsOnly
 reads-only bytes call size u h = heard-only bytes (front bytes) call size u refl h

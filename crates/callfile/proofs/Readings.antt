@@ -12,7 +12,7 @@ use Rattle.rules.specs.declared.refusal.Fault.{Fault}
 use Rattle.callfile.specs.declared.call.Call.{Call}
 use Rattle.callfile.specs.Places.{decode, moved}
 use Rattle.callfile.specs.Readings.{Reading, ended, stoppedBy, callThen, goneOn, readingBy, readingFrom}
-use Rattle.callfile.specs.Laws.{Reading-goes-on}
+use Rattle.callfile.specs.Laws.{ReadingGoesOn}
 use Rattle.callfile.proofs.Steps.{decode-end, moved-call}
 
 -- only a call makes what is read behind it matter
@@ -45,7 +45,7 @@ pub reading-reads : (file : List ℕ) (place : ℕ) (call : Call) → decode fil
     readingFrom file place ≡ callThen call (readingFrom file (moved file place))
 reading-reads file place call e = reading-step file place ∙ ap (λ a. goneOn a (readingFrom file (moved file place))) e
 
-pub reading-goes-on : Reading-goes-on
+pub reading-goes-on : ReadingGoesOn
 reading-goes-on file place = record {
   ends = reading-ends file place;
   stops = reading-stops file place;

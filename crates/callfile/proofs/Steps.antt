@@ -18,7 +18,7 @@ use Rattle.callfile.specs.declared.call.Call.{Call}
 use Rattle.callfile.specs.Fields.{Tagged, front, laid}
 use Rattle.callfile.specs.Calls.{callOf}
 use Rattle.callfile.specs.Places.{measured, heard, firstCall, answered, decode, past, moved}
-use Rattle.callfile.specs.Laws.{Place-moves}
+use Rattle.callfile.specs.Laws.{PlaceMoves}
 use Rattle.callfile.proofs.Fronts.{front-within}
 
 pub decode-is : (file : List ℕ) (place : ℕ) (r : Result (Call × ℕ) Stop) → place < length file →
@@ -106,7 +106,7 @@ pub moved-fault : (file : List ℕ) (place : ℕ) (fault : Fault) → decode fil
 unfolding decode moved
 moved-fault file place fault e = fault-from place (ltb place (length file)) (firstCall (drop place file)) fault e
 
-pub place-moves : Place-moves
+pub place-moves : PlaceMoves
 place-moves file place = record {
   end = decode-end file place;
   ends = decode-none file place;

@@ -1,6 +1,6 @@
-//! One sharing rule for bids, members and accounts: the running shares of an amount on a base, over weights in order.
-//! To weights that sum to c goes amount * c / base, rounded down; a weight gets what goes to the weights up to it
-//! and to it, less what goes to those up to it. On base 0 every share is 0.
+// One sharing rule for bids, members and accounts: the running shares of an amount on a base, over weights in order.
+// To weights that sum to c goes amount * c / base, rounded down; a weight gets what goes to the weights up to it
+// and to it, less what goes to those up to it. On base 0 every share is 0.
 pub mod laws;
 
 ghost use mathlib.Core.Path.{_≡_};
@@ -12,7 +12,7 @@ ghost use Rattle.shares.specs.Sums.{total, at};
 ghost use Rattle.shares.specs.Shares.{dealt, share};
 ghost use Rattle.shares.specs.Outcomes.{Shared, Fits, SharedOut};
 
-/// The share of a weight behind weights that sum to `before`; None where they and it pass the base.
+// The share of a weight behind weights that sum to `before`; None where they and it pass the base.
 pub fn share(amount: u64, base: u64, before: u64, weight: u64) -> Option<u64>
     ensures { λ r. ⌜ Cases r (base < before + weight) (Shared amount base before weight) ⌝ }
 {
@@ -35,8 +35,8 @@ fn dealt_to(amount: u64, base: u64, sum: u64) -> u64
     (amount as u128 * sum as u128 / base as u128) as u64
 }
 
-/// Writes the share of each weight to its place, and keeps the places behind the last weight.
-/// Where the weights pass the base or the places, it answers false and writes nothing.
+// Writes the share of each weight to its place, and keeps the places behind the last weight.
+// Where the weights pass the base or the places, it answers false and writes nothing.
 pub fn share_out(amount: u64, base: u64, weights: &[u64], shares: &mut [u64]) -> bool
     ensures { λ r. ⌜ SharedOut amount base (now (weights .entry)) (now (shares .entry)) (now (shares .exit)) r ⌝ }
 {

@@ -1,6 +1,6 @@
-//! Words and numbers, written as bytes into lent memory.
-//! Each function writes at a place of the memory and answers where the text ends.
-//! Where there is no room it answers None, and the memory stays as it was.
+// Words and numbers, written as bytes into lent memory.
+// Each function writes at a place of the memory and answers where the text ends.
+// Where there is no room it answers None, and the memory stays as it was.
 ghost use mathlib.Core.Path.{_≡_};
 ghost use mathlib.Core.List.{[], _∷_};
 ghost use Prim.Native.Nat.{_+_, _≤_, _<_};
@@ -9,7 +9,7 @@ ghost use Rattle.std.specs.Options.{Cases};
 ghost use Rattle.std.specs.Written.{decimal, signed};
 ghost use Rattle.text.specs.Writing.{Written, Put};
 
-/// Writes one byte.
+// Writes one byte.
 pub fn put_byte(out: &mut [u8], at: usize, byte: u8) -> Option<usize>
     ensures { λ r. ⌜ Put (now (out .entry)) at (byte ∷ []) (now (out .exit)) r ⌝ }
 {
@@ -17,7 +17,7 @@ pub fn put_byte(out: &mut [u8], at: usize, byte: u8) -> Option<usize>
     Some(write_byte(out, at, byte))
 }
 
-/// Writes a text, as `b"ROUND "`.
+// Writes a text, as `b"ROUND "`.
 pub fn put_text(out: &mut [u8], at: usize, text: &[u8]) -> Option<usize>
     ensures { λ r. ⌜ Put (now (out .entry)) at (now (text .entry)) (now (out .exit)) r ⌝ }
 {
@@ -26,7 +26,7 @@ pub fn put_text(out: &mut [u8], at: usize, text: &[u8]) -> Option<usize>
     Some(end)
 }
 
-/// Writes a number by its decimal digits.
+// Writes a number by its decimal digits.
 pub fn put_decimal(out: &mut [u8], at: usize, number: u64) -> Option<usize>
     ensures { λ r. ⌜ Put (now (out .entry)) at (decimal number) (now (out .exit)) r ⌝ }
 {
@@ -34,7 +34,7 @@ pub fn put_decimal(out: &mut [u8], at: usize, number: u64) -> Option<usize>
     Some(write_decimal(out, at, number))
 }
 
-/// Writes a number that may be below 0: then a minus stands before its digits.
+// Writes a number that may be below 0: then a minus stands before its digits.
 pub fn put_signed(out: &mut [u8], at: usize, number: i64) -> Option<usize>
     ensures { λ r. ⌜ Put (now (out .entry)) at (signed number) (now (out .exit)) r ⌝ }
 {

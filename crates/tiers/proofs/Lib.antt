@@ -1,0 +1,5 @@
+pub mod Bearing
+pub mod Settling
+pub mod Rising
+pub mod Rules
+pub mod Owning

@@ -1,0 +1,9 @@
+pub mod Piles
+pub mod Waterfall
+pub mod Charging
+pub mod OwnPile
+pub mod Laws
+pub mod Figures
+pub mod Tables
+pub mod Meanings
+pub mod OwnTiers

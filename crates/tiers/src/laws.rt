@@ -1,6 +1,6 @@
 // The laws of piles and tiers: each stands as the contract of a function.
 ghost use Rattle.tiers.specs.Charging.{inTurn, proRata};
-ghost use Rattle.tiers.specs.Figures.{WorkedLoss, WorkedEdge};
+ghost use Rattle.tiers.specs.Figures.{WorkedCharges, WorkedTiers, WorkedEdge};
 ghost use Rattle.tiers.specs.Laws.{AgainATier, Waterfall, ToldOnce, ChargeWithin, ChargesWhole, InTurnOrder};
 ghost use Rattle.tiers.specs.Laws.{OwnPileBears, OwnChargeIs, JuniorsFirst};
 
@@ -35,7 +35,8 @@ pub fn own_pile_laws_hold() -> u8
 
 // The figures of the worked default.
 pub fn figures_hold() -> u8
-    ensures loss { λ _. ⌜ WorkedLoss ⌝ }
+    ensures charges { λ _. ⌜ WorkedCharges ⌝ }
+    ensures by_tier { λ _. ⌜ WorkedTiers ⌝ }
     ensures edge { λ _. ⌜ WorkedEdge ⌝ }
 {
     0

@@ -1,5 +1,5 @@
 -- The law of every list of calls, by induction over the list.
-use Rattle.std.proofs.Common.{◌≡◌, ℕ, ◌+◌, ◌<◌, ◌≤◌, Bool, true, false, eqb, List, [], ◌∷◌, length, get_or, Some, None, Option, sym, refl, ap, ◌∙◌, subst, arith}
+use Rattle.std.proofs.Common.{◌≡◌, ℕ, ◌+◌, ◌<◌, ◌≤◌, true, false, eqb, List, [], ◌∷◌, length, get_or, Some, None, Option, refl, arith}
 use mathlib.Core.Bool.{Bool-set}
 use mathlib.Core.Logic.{∥∥₁_map}
 use native.Mathlib.Bridge.{le_prop}
@@ -18,7 +18,7 @@ use Rattle.rules.specs.Members.{by_name}
 use Rattle.rules.specs.State.{State, is_roll}
 use Rattle.rules.specs.Calls.{Call, causes, refusal, accepted, unless, after, IsFair, Fair, Came}
 use Rattle.rules.specs.Calls.Call.{multiplier, enrol, close_roll}
-use Rattle.rules.specs.Laws.{EachMember, Bounded, joined, enrolled, Law, EveryList, Lawful}
+use Rattle.rules.specs.Laws.{EachMember, Bounded, joined, enrolled, EveryList, Lawful}
 use Rattle.rules.specs.NameOrder.{bytes_order}
 use Rattle.rules.proofs.Rolls.{Ascending, ascending_at, arrive_ascending}
 use Rattle.rules.proofs.Steps.{absent, within, enrollable}

@@ -1,5 +1,5 @@
 -- A record goes on having come from a new one.
-use Rattle.std.proofs.Common.{◌≡◌, List, [], ◌∷◌, Result, sym, refl, ap, ◌∙◌, subst}
+use Rattle.std.proofs.Common.{List, [], ◌∷◌, Result, sym, refl, ap, ◌∙◌, subst}
 use mathlib.Core.Logic.{∥∥₁_map, ∥∥₁_elim}
 use Rattle.rules.specs.declared.refusal.Refusal.{Refusal}
 use Rattle.rules.specs.State.{State, fresh}

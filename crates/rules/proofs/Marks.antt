@@ -49,9 +49,9 @@ some_another a (x ∷ xs) e =
       | inr behind ↦ (let other = some_another a xs behind in (suc other.0, omega (arith, other.1), other.2))
     ]
 
-of_two : (bids : List Bid) → of_two bids ≡ true → (i : ℕ) × (i < length bids) × ((bid_at bids i).member ≡ (bid_at bids 0).member → ⊥)
-of_two [] e = absurd (let z : ◌≡◌ {A = ℕ} 0 1 = cc in omega arith)
-of_two (x ∷ xs) e = let other = some_another x.member xs e in (suc other.0, omega (arith, other.1), other.2)
+of_two_lem : (bids : List Bid) → of_two bids ≡ true → (i : ℕ) × (i < length bids) × ((bid_at bids i).member ≡ (bid_at bids 0).member → ⊥)
+of_two_lem [] e = absurd (let z : ◌≡◌ {A = ℕ} 0 1 = cc in omega arith)
+of_two_lem (x ∷ xs) e = let other = some_another x.member xs e in (suc other.0, omega (arith, other.1), other.2)
 
 either : (t : Bool) (z p : ℤ) → z ≡ p → cond t z p ≡ p
 either true z p e = e
@@ -66,7 +66,7 @@ mark_reached bids p =
           ∙ reaching_at bids all_parts p i l h (omega (arith, ap (sizes bids) (add-one i)));
       short = λ h. either (of_two bids) (reaching all_parts bids p) p (reaching_not bids all_parts p h);
       alone = λ e. cond-false (of_two bids) (reaching all_parts bids p) p e;
-      two = of_two bids;
+      two = of_two_lem bids;
       one = of_one bids;
     }
 

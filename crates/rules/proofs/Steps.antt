@@ -1,13 +1,13 @@
 -- The two ways of a call: accepted and refused.
-use Rattle.std.proofs.Common.{◌≡◌, ℕ, ◌<◌, ◌≤◌, Bool, true, false, not, ◌||◌, leb, List, [], ◌∷◌, length, is_some, Some, None, Ok, Err, Option, sym, refl, ap, ◌∙◌, arith}
+use Rattle.std.proofs.Common.{◌≡◌, ℕ, ◌<◌, ◌≤◌, Bool, true, false, not, leb, List, [], ◌∷◌, length, is_some, Some, None, Ok, Err, sym, refl, ap, ◌∙◌, arith}
 use Rattle.std.proofs.lemmas.Bool.Decides.{nat_tests}
 use Rattle.rules.specs.declared.member.Member.{Member}
 use Rattle.rules.specs.declared.refusal.Refusal.{Refusal}
 use Rattle.rules.specs.Names.{is_plain}
 use Rattle.rules.specs.Members.{place_of}
-use Rattle.rules.specs.State.{State, is_roll}
-use Rattle.rules.specs.Calls.{Call, outside, causes, uppermost, refusal, accepted, unless, step, answer, IsFair, Did}
-use Rattle.rules.specs.Calls.Call.{multiplier, enrol, close_roll}
+use Rattle.rules.specs.State.{State}
+use Rattle.rules.specs.Calls.{Call, outside, causes, uppermost, refusal, accepted, unless, answer, IsFair, Did}
+use Rattle.rules.specs.Calls.Call.{enrol}
 
 -- no cause of a list is there
 abbrev pub Absent : List (Bool × Refusal) → Type 0

@@ -1,5 +1,5 @@
 -- The calls on a record: for which causes each is refused, and what it makes of the record.
-use Rattle.std.specs.Prelude.{◌≡◌, ℕ, Bool, true, false, cond, not, ◌||◌, List, [], ◌∷◌, length, is_some, Some, None, Ok, Err, Option, Result, ◌==◌, nat_le, nat_lt}
+use Rattle.std.specs.Prelude.{◌≡◌, ℕ, Bool, cond, not, ◌||◌, List, [], ◌∷◌, length, is_some, Some, None, Ok, Err, Option, Result, ◌==◌, nat_le, nat_lt}
 use Rattle.ranked.specs.Order.{arrive}
 use Rattle.rules.specs.declared.member.Member.{Member}
 use Rattle.rules.specs.declared.refusal.Refusal.{Refusal}

@@ -1,12 +1,12 @@
 -- Names compared byte by byte are in a total order.
-use Rattle.std.specs.Prelude.{◌≡◌, ℕ, ◌<◌, ◌⊎◌, List, [], ◌∷◌, refl}
+use Rattle.std.specs.Prelude.{◌≡◌, ℕ, ◌⊎◌, List, [], ◌∷◌, refl}
 use Rattle.std.specs.declared.cmp.Ordering.TheVariants.{Less, Equal, Greater}
 use Rattle.std.specs.declared.cmp.Ordering.{Ordering}
 use Rattle.std.proofs.Common.{sym, ap, ◌∙◌, arith, inl, inr, ⊎_elim}
 use Rattle.std.proofs.lemmas.Bool.Decides.{nat_tests}
 use Rattle.std.specs.Cmp.{nat_cmp_total}
-use Rattle.std.specs.Cmp.Lexicographic.{Lex}
-use Rattle.std.specs.Ordering.{ordering_reverse, ordering_then, MatchOrdering, nat_cmp}
+use Rattle.std.specs.Cmp.Lexicographic.{slice_cmp}
+use Rattle.std.specs.Ordering.{ordering_reverse, ordering_then, nat_cmp}
 use Rattle.ranked.specs.Order.{TotalOrder}
 use Rattle.rules.specs.Names.{by_bytes}
 
@@ -81,15 +81,9 @@ bytes_level (x ∷ xs) (y ∷ ys) h =
     let rest = bytes_level xs ys e.1 in
     cc
 
-then_is : (Q : Type 0) (r l o : Ordering) → (Q → r ≡ l) → MatchOrdering o (r ≡ Less) Q (r ≡ Greater) → r ≡ ordering_then o l
-then_is Q r l Less f h = h
-then_is Q r l Equal f h = f h
-then_is Q r l Greater f h = h
-
 -- what `cmp` of two arrays answers
-pub compared : (xs ys : List ℕ) (r : Ordering) → Lex (λ (x y : ℕ) (o : Ordering). MatchOrdering o (x < y) (x ≡ y) (y < x)) xs ys r → r ≡ by_bytes xs ys
+pub compared : (xs ys : List ℕ) (r : Ordering) → r ≡ slice_cmp nat_cmp xs ys → r ≡ by_bytes xs ys
 compared [] [] r h = h
 compared [] (y ∷ ys) r h = h
 compared (x ∷ xs) [] r h = h
-compared (x ∷ xs) (y ∷ ys) r h =
-    then_is _ r (by_bytes xs ys) h.0 (compared xs ys r) h.2 ∙ ap (λ o. ordering_then o (by_bytes xs ys)) (nat_cmp_total.says x y h.0 h.1)
+compared (x ∷ xs) (y ∷ ys) r h = h ∙ ap (ordering_then (nat_cmp x y)) (compared xs ys (slice_cmp nat_cmp xs ys) refl)

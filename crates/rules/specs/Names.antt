@@ -1,9 +1,8 @@
 -- Names: which bytes they may have, how they rank, and which name a number spells.
-use Rattle.std.specs.Prelude.{ℕ, ◌/◌, ◌%◌, Bool, true, false, cond, ◌&&◌, ◌||◌, List, [], ◌∷◌, nat_le}
+use Rattle.std.specs.Prelude.{ℕ, ◌/◌, ◌%◌, Bool, true, ◌&&◌, ◌||◌, List, [], ◌∷◌, nat_le}
 use Rattle.std.specs.declared.cmp.Ordering.TheVariants.{Less, Equal, Greater}
 use Rattle.std.specs.declared.cmp.Ordering.{Ordering}
-use Rattle.std.specs.Ordering.{ordering_then}
-use Rattle.std.specs.Ordering as std-orderings
+use Rattle.std.specs.Ordering.{nat_cmp, ordering_then}
 
 -- a capital letter, 65 to 90, or a digit, 48 to 57
 abbrev pub is_plain_byte : ℕ → Bool
@@ -18,7 +17,7 @@ abbrev pub by_bytes : List ℕ → List ℕ → Ordering
 by_bytes [] [] = Equal
 by_bytes [] (y ∷ ys) = Less
 by_bytes (x ∷ xs) [] = Greater
-by_bytes (x ∷ xs) (y ∷ ys) = ordering_then (std-orderings.nat_cmp x y) (by_bytes xs ys)
+by_bytes (x ∷ xs) (y ∷ ys) = ordering_then (nat_cmp x y) (by_bytes xs ys)
 
 -- the eight bytes of a number, the highest first
 abbrev pub spelling : ℕ → List ℕ

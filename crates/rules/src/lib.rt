@@ -1,4 +1,6 @@
 // The words of the rules: members, bids, stages and refusals.
+#![tactic(auto)]
+
 pub mod bid;
 pub mod figures;
 pub mod fraction_laws;

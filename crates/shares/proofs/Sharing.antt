@@ -1,11 +1,11 @@
 -- The laws of running shares, proved. Only those of `dealt` open its definition.
-use Rattle.std.proofs.Common.{◌≡◌, ℕ, zero, suc, ◌+◌, ◌-◌, ◌*◌, ◌/◌, ◌<◌, ◌≤◌, sym, refl, ap, ◌∙◌, mul-le-mul_right, mul_comm, mul-le-mul_left, mul-zero, zero-mul, mul-add, div-mul-le_self, mul-div_cancel, arith}
+use Rattle.std.proofs.Common.{◌≡◌, ℕ, zero, suc, ◌+◌, ◌*◌, ◌/◌, ◌≤◌, sym, refl, ap, ◌∙◌, mul-le-mul_right, mul_comm, mul-le-mul_left, mul-zero, zero-mul, mul-add, div-mul-le_self, mul-div_cancel, arith}
 use native.Mathlib.Nat.{zero-div, add-mul-div_right, mul-div_cancel_left, div-le_of_le-mul}
 use Rattle.std.proofs.lemmas.Nat.{le-div}
 use Rattle.shares.specs.Sums.{total}
 use Rattle.shares.specs.Shares.{dealt, share}
 use Rattle.shares.specs.Laws.{DealtNone, DealtRises, DealtWithin, DealtWhole, DealtOfBase, ShareAdds, SharesAddUp, SharesWhole, ShareWithin, ShareBaseless, ShareWeightless, ShareOfNone, ShareOfBase, ShareSame}
-use Rattle.shares.proofs.Totals.{total_none, total_more, total_same}
+use Rattle.shares.proofs.Totals.{total_more, total_same}
 
 div_mono : (m n b : ℕ) → m ≤ n → m / suc b ≤ n / suc b
 div_mono m n b h = le-div (m / suc b) n (suc b) (omega arith) (omega (arith, div-mul-le_self m (suc b)))

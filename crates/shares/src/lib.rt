@@ -1,6 +1,8 @@
 // One sharing rule for bids, members and accounts: the running shares of an amount on a base, over weights in order.
 // To weights that sum to c goes amount * c / base, rounded down; a weight gets what goes to the weights up to it
 // and to it, less what goes to those up to it. On base 0 every share is 0.
+#![tactic(auto)]
+
 pub mod laws;
 
 ghost use Rattle.std.specs.Prelude.{◌≡◌, ℕ, ◌+◌, ◌<◌, ◌≤◌, length, MatchOption, nat_le};

@@ -1,6 +1,8 @@
 // Words and numbers, written as bytes into lent memory.
 // Each function writes at a place of the memory and answers where the text ends.
 // Where there is no room it answers None, and the memory stays as it was.
+#![tactic(auto)]
+
 ghost use Rattle.std.specs.Prelude.{◌≡◌, ◌+◌, ◌<◌, ◌≤◌, [], ◌∷◌, length, decimal, MatchOption};
 ghost use Rattle.std.specs.Fmt.{signed_decimal};
 ghost use Rattle.text.specs.Writing.{Written, Put};

@@ -22,8 +22,8 @@ impl<T: Rank + Drop> OrderedTable<T> {
 
     // The place of the first record that is level with `x`.
     pub fn place_of(&self, x: &T) -> Option<usize>
-        ensures value { result ≡ found ranks x.now (listed self.now) }
-        ensures first { FirstLevel ranks x.now (listed self.now) result }
+        ensures value { result ≡ found T.ranks x.now (listed self.now) }
+        ensures first { FirstLevel T.ranks x.now (listed self.now) result }
     {
         for (i, y) in self.records.iter().enumerate() {
             if x.rank(y).is_eq() {

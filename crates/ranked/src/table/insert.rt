@@ -18,7 +18,7 @@ impl<T: Rank + Drop> OrderedTable<T> {
 
     // How many records `x` goes behind.
     fn seat_of(&self, x: &T) -> usize
-        ensures { result ≡ behind ranks x.now (listed self.now) }
+        ensures { result ≡ behind T.ranks x.now (listed self.now) }
     {
         for (i, y) in self.records.iter().enumerate() {
             if x.rank(y).is_lt() {
@@ -31,8 +31,8 @@ impl<T: Rank + Drop> OrderedTable<T> {
     // Puts `x` behind those that stand before it or level with it, and answers its place; `None` where the table is full.
     pub fn insert(&mut self, x: T) -> Option<usize>
         ensures limit { self.new.limit ≡ self.old.limit }
-        ensures in_order { InOrder ranks (listed self.old) → InOrder ranks (listed self.new) }
-        ensures arrived { MatchOption result ((self.old.limit ≤ length (listed self.old)) × (listed self.new ≡ listed self.old)) (λ i. (length (listed self.old) < self.old.limit) × (i ≡ behind ranks x (listed self.old)) × Arrived ranks x (listed self.old) (listed self.new)) }
+        ensures in_order { InOrder T.ranks (listed self.old) → InOrder T.ranks (listed self.new) }
+        ensures arrived { MatchOption result ((self.old.limit ≤ length (listed self.old)) × (listed self.new ≡ listed self.old)) (λ i. (length (listed self.old) < self.old.limit) × (i ≡ behind T.ranks x (listed self.old)) × Arrived T.ranks x (listed self.old) (listed self.new)) }
     {
         if self.records.len() >= self.limit {
             return None;
@@ -44,7 +44,7 @@ impl<T: Rank + Drop> OrderedTable<T> {
 
     // Whatever arrives, an empty table ends up with all of it in order of rank, level ones as they came.
     pub fn keeps_order() -> u8
-        ensures { (xs : List T) → Keeps ranks xs }
+        ensures { (xs : List T) → Keeps T.ranks xs }
     {
         0
     }

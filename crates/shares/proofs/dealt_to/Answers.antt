@@ -13,8 +13,8 @@ returns-then-not-based c =
     let none : c.args.base ≡ 0 = omega arith in
     sym (ap (λ b. dealt c.args.amount b c.args.sum) none ∙ dealt_baseless c.args.amount c.args.sum)
 
-pub overflow-cast-result-4 : goal.overflow-cast-result-4
-overflow-cast-result-4 c =
+pub overflow_cast-result-4 : goal.overflow_cast-result-4
+overflow_cast-result-4 c =
     omega (arith, rounded c.args.amount c.args.base c.args.sum (omega arith), dealt_within c.args.amount c.args.base c.args.sum (omega arith))
 
 pub returns : goal.returns

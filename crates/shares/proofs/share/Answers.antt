@@ -1,20 +1,20 @@
-use Rattle.std.proofs.Common.{◌≡◌, ◌+◌, ◌≤◌, ap, arith}
+use Rattle.std.proofs.Common.{◌≡◌, ◌+◌, ap, arith}
 use Rattle.shares.specs.Shares.{dealt}
 use Rattle.shares.proofs.Sharing.{dealt_rises, dealt-step, share-behind}
 use Rattle.shares.proofs.share.Goals as goal
 
 -- The sum with the weight.
-sum_is : (c : goal.After-dealt-to-2) → c.in-ok-after.after ≡ c.args.before + c.args.weight
-sum_is c = c.in-ok-after.ensures.1
+sum_is : (c : goal.After-dealt_to-2) → c.in_ok-after.after ≡ c.args.before + c.args.weight
+sum_is c = c.in_ok-after.ensures.1
 
-pub overflow-sub-result : goal.overflow-sub-result
-overflow-sub-result c =
-    let after = c.in-ok-after.after in
+pub overflow_sub-result : goal.overflow_sub-result
+overflow_sub-result c =
+    let after = c.in_ok-after.after in
     omega (arith, dealt_rises c.args.amount c.args.base c.args.before after (omega (arith, sum_is c)))
 
 pub returns : goal.returns
 returns c =
-    let after = c.in-ok-after.after in
+    let after = c.in_ok-after.after in
     let sum : after ≡ c.args.before + c.args.weight = sum_is c in
     let same : dealt c.args.amount c.args.base after ≡ dealt c.args.amount c.args.base (c.args.before + c.args.weight) =
     ap (dealt c.args.amount c.args.base) sum in

@@ -1,6 +1,6 @@
-use Rattle.std.proofs.Common.{◌≡◌, ℕ, ◌+◌, ◌<◌, ◌≤◌, List, length, sym, refl, ap, arith}
+use Rattle.std.proofs.Common.{◌≡◌, ℕ, ◌+◌, ◌<◌, ◌≤◌, List, length, sym, refl, arith}
 use Rattle.shares.specs.Sums.{total, at}
-use Rattle.shares.specs.Shares.{dealt, share}
+use Rattle.shares.specs.Shares.{share}
 use Rattle.shares.proofs.Totals.{total_none, total_more, total_grows}
 use Rattle.shares.proofs.Rows.{row_more, row_rest}
 use Rattle.shares.proofs.Sharing.{dealt_none, dealt_rises, share-behind}
@@ -19,17 +19,17 @@ more_within : (ws : List ℕ) (base i sum : ℕ) → total (length ws) (at ws) �
 more_within ws base i sum within h e =
     omega (arith, total_more i (at ws), total_grows (i + 1) (length ws) (at ws) (omega arith))
 
-pub overflow-add-after : goal.overflow-add-after
-overflow-add-after c =
+pub overflow_add-after : goal.overflow_add-after
+overflow_add-after c =
     omega (arith, more_within c.args.weights.now c.args.base c.loop-i.i c.loop-i.before c.requires.within (omega arith) (omega arith))
 
-pub dealt-to-next-requires : goal.dealt-to-next-requires
-dealt-to-next-requires c = record {
+pub dealt_to-next-requires : goal.dealt_to-next-requires
+dealt_to-next-requires c = record {
   within = omega (arith, more_within c.args.weights.now c.args.base c.loop-i.i c.loop-i.before c.requires.within (omega arith) (omega arith));
 }
 
-pub overflow-sub-shares : goal.overflow-sub-shares
-overflow-sub-shares c =
+pub overflow_sub-shares : goal.overflow_sub-shares
+overflow_sub-shares c =
     omega (arith, dealt_rises c.args.amount c.args.base c.loop-i.before (c.loop-i.before + at c.args.weights.now c.loop-i.i) (omega arith))
 
 pub loop-i-preserved : goal.loop-i-preserved
@@ -39,7 +39,7 @@ loop-i-preserved c =
     let room : i < length c.loop-i.shares = omega (arith, c.requires.room) in
     let here = share-behind c.args.amount c.args.base c.loop-i.before (w i) w i (sym c.loop-i.invariant.0) refl in (
       omega (arith, total_more i w),
-      c.dealt-to-next.ensures,
+      c.dealt_to-next.ensures,
       row_more (share c.args.amount c.args.base w) c.loop-i.shares i _ room (omega arith) c.loop-i.invariant.2,
       row_rest c.args.shares.now c.loop-i.shares i _ c.loop-i.invariant.3,
     )

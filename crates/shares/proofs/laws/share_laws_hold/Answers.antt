@@ -5,12 +5,12 @@ pub returns : goal.returns
 returns c =
     record {
       adds = share_adds;
-      add-up = shares_add_up;
+      add_up = shares_add_up;
       whole = shares_whole;
       within = share_within;
       baseless = share_baseless;
       weightless = share_weightless;
       of_none = share_of_none;
-      of-base = share_of_base;
+      of_base = share_of_base;
       same = share_same;
     }

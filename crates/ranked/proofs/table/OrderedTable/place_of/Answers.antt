@@ -7,12 +7,12 @@ use Rattle.ranked.proofs.table.OrderedTable.place_of.Goals as goal
 pub loop-i-init : goal.loop-i-init
 loop-i-init g c = onward_none (found g.T.Rank.ranks c.args.x.now (vec_items c.args.self.now.records))
 
-pub returns-then-is-eq : goal.returns-then-is-eq
-returns-then-is-eq g c =
+pub returns-then-is_eq : goal.returns-then-is_eq
+returns-then-is_eq g c =
     let xs = vec_items c.args.self.now.records in
     let e = c.deref-y-items.ensures.value in
     let is = found_here g.T.Rank.ranks c.args.x.now xs c.loop-i.i c.y-item.result
-    (rw e at c.loop-i-test.true) (rw e at c.y-item.is) (c.if-is-eq.ensures ∙ ap is_eq c.rank.ensures) c.loop-i.invariant in
+    (rw e at c.loop-i-test.true) (rw e at c.y-item.is) (c.if-is_eq.ensures ∙ ap is_eq c.rank.ensures) c.loop-i.invariant in
     record { value = is; first = subst (FirstLevel g.T.Rank.ranks c.args.x.now xs) (sym is) (found_first g.T.Rank.ranks c.args.x.now xs) }
 
 pub loop-i-preserved : goal.loop-i-preserved
@@ -20,7 +20,7 @@ loop-i-preserved g c =
     let xs = vec_items c.args.self.now.records in
     let e = c.deref-y-items.ensures.value in
     found_more g.T.Rank.ranks c.args.x.now xs c.loop-i.i c.y-item.result
-    (rw e at c.loop-i-test.true) (rw e at c.y-item.is) (c.if-is-eq.ensures ∙ ap is_eq c.rank.ensures) c.loop-i.invariant
+    (rw e at c.loop-i-test.true) (rw e at c.y-item.is) (c.if-is_eq.ensures ∙ ap is_eq c.rank.ensures) c.loop-i.invariant
 
 pub returns : goal.returns
 returns g c =

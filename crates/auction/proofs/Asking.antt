@@ -1,7 +1,7 @@
 -- The minimums of a first round, computed.
-use Rattle.std.proofs.Common.{◌≡◌, ℕ, zero, suc, ◌+◌, ◌-◌, ◌*◌, ◌/◌, ◌<◌, ◌≤◌, min, Bool, true, false, not, ◌&&◌, List, length, get_or, sym, refl, ap, ◌∙◌, subst, inl, inr, mul-le-mul, add-one, arith}
+use Rattle.std.proofs.Common.{◌≡◌, ℕ, zero, suc, ◌+◌, ◌*◌, ◌<◌, ◌≤◌, min, Bool, true, false, not, ◌&&◌, List, length, get_or, refl, ap, ◌∙◌, inl, inr, mul-le-mul, add-one, arith}
 use Rattle.std.proofs.lemmas.List.{get_or_default}
-use Rattle.std.proofs.lemmas.Bool.{cases_lt, cond-true, cond-false}
+use Rattle.std.proofs.lemmas.Bool.{cases_lt}
 use Rattle.shares.specs.Sums.{at, total}
 use Rattle.shares.proofs.Totals.{total_more, total_within, total_same}
 use Rattle.rules.specs.declared.member.Member.{Member}

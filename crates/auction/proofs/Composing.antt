@@ -7,7 +7,7 @@ use Rattle.shares.proofs.Sharing.{share_same, share_within}
 use Rattle.rules.specs.declared.bid.Bid.{Bid}
 use Rattle.rules.specs.Amounts.{when, signed_as, total_z}
 use Rattle.rules.specs.Minimums.{all_parts}
-use Rattle.rules.specs.Books.{Book, Within, worth, giving}
+use Rattle.rules.specs.Books.{Book, worth, giving}
 use Rattle.rules.specs.Rounds.{Round, Sound, bid_at, market_size, market_at, market, of_member, shortfall, shortfalls, bid_filled, givings, bid_parts, shortfall_parts, allotment, last_given, round_price, transfer}
 use Rattle.rules.proofs.Best.{giving_best}
 use Rattle.rules.proofs.Dividing.{market_covers, offer_allotted}

@@ -1,5 +1,5 @@
 -- What a bid gets of what its level takes.
-use Rattle.std.proofs.Common.{◌≡◌, ℕ, ◌+◌, ◌-◌, ◌<◌, ◌≤◌, min, ℤ, sym, refl, ap, ◌∙◌, arith}
+use Rattle.std.proofs.Common.{◌≡◌, ℕ, ◌+◌, ◌-◌, ◌<◌, ◌≤◌, min, sym, ap, ◌∙◌, arith}
 use Rattle.shares.specs.Sums.{total}
 use Rattle.shares.specs.Shares.{share}
 use Rattle.shares.specs.Outcomes.{Shared}

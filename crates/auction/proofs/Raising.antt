@@ -1,5 +1,5 @@
 -- The row of second minimums.
-use Rattle.std.proofs.Common.{◌≡◌, ℕ, ◌+◌, ◌-◌, ◌<◌, ◌≤◌, min, eqb, List, sym, refl, ap, ◌∙◌, arith}
+use Rattle.std.proofs.Common.{◌≡◌, ℕ, ◌+◌, ◌-◌, ◌<◌, min, eqb, List, ap, ◌∙◌, arith}
 use Rattle.shares.specs.Sums.{at, total}
 use Rattle.shares.specs.Shares.{share}
 use Rattle.shares.proofs.Totals.{total_same}

@@ -1,5 +1,5 @@
 -- The running shares over the first weights of a row.
-use Rattle.std.proofs.Common.{◌≡◌, ℕ, ◌+◌, ◌-◌, ◌<◌, ◌≤◌, Bool, true, List, length, take, replicate, sym, refl, ap, ◌∙◌, arith, length-take-le, get_or-take}
+use Rattle.std.proofs.Common.{◌≡◌, ℕ, ◌+◌, ◌<◌, ◌≤◌, Bool, List, length, take, replicate, ap, ◌∙◌, arith, length-take-le, get_or-take}
 use Rattle.shares.specs.Sums.{at, total}
 use Rattle.shares.specs.Shares.{share}
 use Rattle.shares.specs.Outcomes.{SharedOut, Fits}

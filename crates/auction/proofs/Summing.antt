@@ -1,11 +1,11 @@
 -- One turn of the loops that sum over bids.
-use Rattle.std.proofs.Common.{◌≡◌, ℕ, ◌+◌, ◌*◌, ◌<◌, ◌≤◌, Bool, true, false, eqb, List, length, ℤ, sym, refl, ap, ◌∙◌, arith}
+use Rattle.std.proofs.Common.{◌≡◌, ℕ, ◌+◌, ◌*◌, ◌≤◌, Bool, true, false, eqb, List, ℤ, sym, ap, ◌∙◌, arith}
 use lib.Signed.{lt_z}
 use Rattle.shares.specs.Sums.{total}
 use Rattle.shares.proofs.Totals.{total_none, total_more}
 use Rattle.rules.specs.declared.bid.Bid.{Bid}
 use Rattle.rules.specs.Amounts.{when}
-use Rattle.rules.specs.Books.{Book, higher, alongside, same_price}
+use Rattle.rules.specs.Books.{higher, alongside, same_price}
 use Rattle.rules.specs.Rounds.{bid_at, is_market, market_size, market_at}
 
 pub when_low : (t : Bool) (n m : ℕ) → n ≤ m → when t n ≤ m

@@ -3,7 +3,7 @@ use Rattle.std.specs.Prelude.{ℕ, ◌<◌, ◌≤◌, List, length, ℤ, ◌≤
 use Rattle.shares.specs.Sums.{total, at}
 use Rattle.rules.specs.declared.bid.Bid.{Bid}
 use Rattle.rules.specs.Minimums.{all_parts}
-use Rattle.rules.specs.Rounds.{Round, Sound, mark, bid_at, OfMembers}
+use Rattle.rules.specs.Rounds.{Round, mark, bid_at, OfMembers}
 use Rattle.auction.specs.Rows.{Low}
 
 abbrev pub round_of : List Bid → (minimums : List ℕ) → (members : ℕ) → (reference : ℤ) → (margin : ℕ) → Round

@@ -1,5 +1,4 @@
 -- What the code's rounds are to the rules.
-use Rattle.std.specs.Prelude.{ℕ}
 use Rattle.rules.specs.Books.{Book}
 use Rattle.rules.specs.Rounds.{Round, market_at}
 use Rattle.auction.specs.declared.round.Round.{Round as Data}

@@ -1,6 +1,5 @@
 -- The minimums that a residual makes for the second round.
-use Rattle.std.specs.Prelude.{◌≡◌, ℕ, ◌<◌, ◌≤◌, List}
-use Rattle.rules.specs.Minimums.{all_parts}
+use Rattle.std.specs.Prelude.{◌≡◌, ℕ, ◌<◌, List}
 use Rattle.rules.specs.Rounds.{Round}
 use Rattle.rules.specs.Residuals.{cut_allotment, second_minimum}
 use Rattle.shares.specs.Sums.{at}

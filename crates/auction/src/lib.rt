@@ -1,5 +1,7 @@
 // How a round of the auction is divided: minimums, mark, market bids, givings, price, allotments and transfers; what a
 // residual makes of it; and how far each member fell short.
+#![tactic(auto)]
+
 pub mod cuts;
 pub mod division;
 pub mod fractions;

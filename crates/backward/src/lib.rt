@@ -1,4 +1,6 @@
 // A tier of another house: its accounts bear from the last to the first, and their amounts have no limit but 64 bits.
+#![tactic(auto)]
+
 ghost use Rattle.std.specs.Prelude.{◌≡◌, ℕ, ◌+◌, ◌^◌, ◌<◌, length};
 ghost use Rattle.backward.specs.Charging.{last_first};
 ghost use Rattle.shares.specs.Sums.{at};

@@ -1,4 +1,6 @@
 // A pile three deep, one of its tiers foreign, bears losses one after another.
+#![tactic(auto)]
+
 ghost use Rattle.std.specs.Prelude.{◌≡◌, ℕ, ◌<◌, Some, MatchResult, slice_index_or};
 ghost use Rattle.bearing.specs.Example.{in_turn_row, backward_row, pro_rata_row, example};
 ghost use Rattle.shares.specs.Sums.{at};
@@ -66,7 +68,7 @@ fn three_deep() -> Result<ThreeDeep, Refusal>
 
 // What an account can still bear and has borne, as it is told.
 fn told_account<P: Tier>(pile: &P, number: u8) -> (u64, u64)
-    ensures { number < 64 → Tells (meaning pile.now) number (Some result) }
+    ensures { number < 64 → Tells (P.meaning pile.now) number (Some result) }
 {
     match pile.account(number) {
         Some(account) => account,
@@ -76,7 +78,7 @@ fn told_account<P: Tier>(pile: &P, number: u8) -> (u64, u64)
 
 // The same of each account.
 fn told_accounts<P: Tier>(pile: &P) -> [(u64, u64); 64]
-    ensures { (a : ℕ) → a < 64 → Tells (meaning pile.now) a (Some (slice_index_or result a (0, 0))) }
+    ensures { (a : ℕ) → a < 64 → Tells (P.meaning pile.now) a (Some (slice_index_or result a (0, 0))) }
 {
     let mut accounts = [(0, 0); 64];
     for number in 0..64u8 {

@@ -1,5 +1,5 @@
 -- The lines to come, before and after one more call of the file.
-use Rattle.std.proofs.Common.{◌≡◌, ℕ, ◌+◌, ◌-◌, ◌<◌, ◌≤◌, Bool, true, false, cond, List, [], ◌∷◌, ◌++◌, length, Some, None, Ok, Err, Option, Result, sym, refl, ap, ◌∙◌, subst, arith}
+use Rattle.std.proofs.Common.{◌≡◌, ℕ, ◌+◌, ◌-◌, ◌<◌, ◌≤◌, Bool, false, cond, List, [], ◌∷◌, ◌++◌, length, Some, None, Ok, Err, Option, Result, sym, ap, ◌∙◌, arith}
 use Rattle.callfile.specs.declared.call.Call.{Call as FileCall}
 use Rattle.callfile.specs.Places.{decode, moved}
 use Rattle.callfile.specs.Readings.{Reading, reading_from}
@@ -8,7 +8,7 @@ use Rattle.callfile.proofs.Steps.{place_moves}
 use Rattle.rules.specs.declared.refusal.Refusal.{Refusal}
 use Rattle.rules.specs.declared.refusal.Fault.{Fault}
 use Rattle.rules.specs.State.{State}
-use Rattle.rules.specs.Calls.{Call, Did, refusal, step, answer}
+use Rattle.rules.specs.Calls.{Did, refusal, answer}
 use Rattle.report.specs.Lines.{refused_line, stopped_line}
 use Rattle.report.specs.Statement.{called, noted, lines_of}
 

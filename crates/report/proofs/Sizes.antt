@@ -1,5 +1,5 @@
 -- No line is longer than 32 bytes.
-use Rattle.std.proofs.Common.{◌≡◌, ℕ, ◌+◌, ◌^◌, ◌<◌, ◌≤◌, List, ◌++◌, length, drop, Some, codes, decimal, Option, sym, subst, arith, length-append}
+use Rattle.std.proofs.Common.{◌≡◌, ℕ, ◌^◌, ◌<◌, ◌≤◌, List, ◌++◌, length, drop, Some, Option, sym, subst, arith, length-append}
 use Rattle.text.specs.Writing.{Tried}
 use Rattle.text.proofs.Writes.{tried_whole}
 use Rattle.text.proofs.Sizes.{decimal_at_most, decimal_at_most_20}

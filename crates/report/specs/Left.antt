@@ -1,5 +1,5 @@
 -- The lines that a report has still to give, and what the next one leaves in memory.
-use Rattle.std.specs.Prelude.{ℕ, ◌+◌, ◌-◌, Bool, true, false, cond, List, [], ◌∷◌, ◌++◌, length, drop, Some, None, Ok, Err, Option, Result, nat_lt}
+use Rattle.std.specs.Prelude.{ℕ, ◌+◌, ◌-◌, Bool, cond, List, [], ◌∷◌, ◌++◌, length, drop, Some, None, Ok, Err, Option, Result, nat_lt}
 use Rattle.callfile.specs.Readings.{reading_from}
 use Rattle.record.specs.Look.{state}
 use Rattle.rules.specs.declared.refusal.Refusal.{Refusal}

@@ -1,5 +1,5 @@
 -- The statement of a call file: what became of its calls on a new record, line by line.
-use Rattle.std.specs.Prelude.{ℕ, ◌+◌, cond, List, [], ◌∷◌, ◌++◌, take, Some, None, Option}
+use Rattle.std.specs.Prelude.{ℕ, ◌+◌, List, [], ◌∷◌, ◌++◌, take, Some, None, Option}
 use Rattle.callfile.specs.declared.call.Call.{Call as FileCall}
 use Rattle.callfile.specs.declared.call.Call.TheVariants.{Enrol, CloseRoll, Multiplier}
 use Rattle.callfile.specs.Readings.{Reading, reading}

@@ -1,4 +1,6 @@
 // Prints the statement of the call file on standard input.
+#![tactic(auto)]
+
 use report::report::Report;
 use std::io;
 use std::io::{BufWriter, Read, Write};

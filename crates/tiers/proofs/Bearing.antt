@@ -1,10 +1,10 @@
 -- A pile that bears is, as a whole, a tier that bears.
-use Rattle.std.proofs.Common.{◌≡◌, ℕ, ◌+◌, ◌-◌, ◌<◌, ◌≤◌, min, arith}
+use Rattle.std.proofs.Common.{◌≡◌, ℕ, ◌+◌, min, arith}
 use Rattle.shares.specs.Sums.{total}
 use Rattle.shares.proofs.Totals.{total_plus, total_same, total-minus, total_within}
 use Rattle.tiers.specs.Piles.{Pile, left_at, borne_at, left_all, borne_all, Bore, Bears}
 use Rattle.tiers.specs.Piles.Pile.{one, above}
-use Rattle.tiers.specs.Waterfall.{charged, charges, Spent}
+use Rattle.tiers.specs.Waterfall.{charges, Spent}
 
 -- Nothing is left in all: nothing is left anywhere.
 pub spent : (p : Pile) → left_all p ≡ 0 → Spent p

@@ -1,10 +1,10 @@
 -- A tier whose accounts are charged within what each can bear, and as much in all as can be borne, has borne.
-use Rattle.std.proofs.Common.{◌≡◌, ℕ, ◌+◌, ◌-◌, ◌<◌, ◌≤◌, min, List, ap, ◌∙◌, arith}
+use Rattle.std.proofs.Common.{◌≡◌, ℕ, ◌+◌, ◌-◌, ◌<◌, ◌≤◌, min, List, ap, arith}
 use Rattle.shares.specs.Sums.{total, at}
 use Rattle.shares.proofs.Totals.{total_plus, total_same}
 use Rattle.tiers.specs.Piles.{Bore}
 use Rattle.tiers.specs.Piles.Pile.{one}
-use Rattle.tiers.specs.Charging.{Rule, Charged, ChargedBy}
+use Rattle.tiers.specs.Charging.{Rule, ChargedBy}
 use Rattle.tiers.specs.Laws.{ChargeWithin, ChargesWhole}
 use Rattle.tiers.specs.Tables.{left_of, tier_of}
 

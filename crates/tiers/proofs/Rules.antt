@@ -1,11 +1,11 @@
 -- Charging in turn and charging pro rata.
-use Rattle.std.proofs.Common.{◌≡◌, ℕ, zero, suc, ◌+◌, ◌-◌, ◌<◌, ◌≤◌, min, Bool, true, List, length, ap, ◌∙◌, arith}
+use Rattle.std.proofs.Common.{◌≡◌, ℕ, zero, suc, ◌+◌, ◌<◌, min, Bool, true, List, length, ap, ◌∙◌, arith}
 use Rattle.shares.specs.Sums.{total, at}
 use Rattle.shares.specs.Shares.{share}
 use Rattle.shares.specs.Outcomes.{SharedOut}
 use Rattle.shares.proofs.Totals.{total_more, total_grows, total_same}
 use Rattle.shares.proofs.Sharing.{share_within, shares_full, share_same}
-use Rattle.tiers.specs.Charging.{Rule, in_turn, pro_rata, rest}
+use Rattle.tiers.specs.Charging.{in_turn, pro_rata, rest}
 use Rattle.tiers.specs.Laws.{InTurnOrder}
 use Rattle.tiers.proofs.Rising.{Lawful}
 

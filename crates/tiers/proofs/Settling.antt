@@ -1,9 +1,9 @@
 -- The theorem of the waterfall: of one bearing, and of one after another.
-use Rattle.std.proofs.Common.{◌≡◌, ℕ, ◌+◌, ◌-◌, ◌<◌, ◌≤◌, min, List, [], ◌∷◌, ◌++◌, length, sym, refl, subst, inl, inr, arith}
+use Rattle.std.proofs.Common.{◌≡◌, ℕ, ◌+◌, ◌<◌, ◌≤◌, List, [], ◌∷◌, ◌++◌, length, sym, refl, subst, inl, inr, arith}
 use Rattle.std.proofs.lemmas.Bool.{cases_lt}
 use Rattle.shares.specs.Sums.{total, at}
 use Rattle.shares.proofs.Totals.{total_none, total_first, total-minus, total-zero}
-use Rattle.tiers.specs.Piles.{Pile, left_at, borne_at, left_all, borne_all, Bears}
+use Rattle.tiers.specs.Piles.{Pile, left_at, borne_at, borne_all, Bears}
 use Rattle.tiers.specs.Piles.Pile.{one, above}
 use Rattle.tiers.specs.Waterfall.{charged, charges, Spent, Balanced, UpperFirst, Settled, BearsEach}
 use Rattle.tiers.proofs.Bearing.{spent, bore, left_after, charges_are}

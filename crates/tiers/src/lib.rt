@@ -1,4 +1,6 @@
 // Tiers of accounts that bear losses, and piles of them, one above another.
+#![tactic(auto)]
+
 pub mod above;
 mod accounts;
 pub mod in_turn;

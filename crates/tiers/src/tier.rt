@@ -33,7 +33,7 @@ pub fn nothing() -> [u64; 64]
 
 // What an account has borne, as it is told.
 fn told_borne<T: Tier>(tier: &T, number: u8) -> u64
-    ensures { number < 64 → result ≡ told (borne_at (meaning tier.now) number) }
+    ensures { number < 64 → result ≡ told (borne_at (T.meaning tier.now) number) }
 {
     match tier.account(number) {
         Some((_, borne)) => borne,
@@ -44,7 +44,7 @@ fn told_borne<T: Tier>(tier: &T, number: u8) -> u64
 // What each account has borne, as it is told.
 pub(crate) fn borne_row<T: Tier>(tier: &T) -> [u64; 64]
     ensures wide { length result ≡ 64 }
-    ensures each { (a : ℕ) → a < 64 → at result a ≡ told (borne_at (meaning tier.now) a) }
+    ensures each { (a : ℕ) → a < 64 → at result a ≡ told (borne_at (T.meaning tier.now) a) }
 {
     let mut row = nothing();
     for number in 0..64u8 {

@@ -8,16 +8,16 @@ use crate::tier::Tier;
 
 // Bears what the pile can of a loss, and answers what stays unborne.
 pub fn bear_loss<P: Tier>(pile: &mut P, loss: u64) -> u64
-    ensures bears { Bears (meaning pile.old) loss (meaning pile.new) result }
-    ensures settled { Settled (meaning pile.old) loss (meaning pile.new) result }
+    ensures bears { Bears (P.meaning pile.old) loss (P.meaning pile.new) result }
+    ensures settled { Settled (P.meaning pile.old) loss (P.meaning pile.new) result }
 {
     pile.bear(loss)
 }
 
 // Bears the losses one after another, and answers what stays unborne of all.
 pub fn bear_losses<P: Tier>(pile: &mut P, losses: &[u64]) -> u128
-    ensures each { BearsEach (meaning pile.old) losses.now (meaning pile.new) result }
-    ensures settled { Settled (meaning pile.old) (total (length losses.now) (at losses.now)) (meaning pile.new) result }
+    ensures each { BearsEach (P.meaning pile.old) losses.now (P.meaning pile.new) result }
+    ensures settled { Settled (P.meaning pile.old) (total (length losses.now) (at losses.now)) (P.meaning pile.new) result }
 {
     let mut unborne = 0;
     for loss in losses {

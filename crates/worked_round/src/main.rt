@@ -1,4 +1,6 @@
 // Strikes the rounds of the worked figures and prints what comes of them.
+#![tactic(auto)]
+
 use auction::cuts::{cut_margin, cut_reference};
 use auction::fractions::{PackageFractions, Weighed};
 use auction::marks::mark;

@@ -1,4 +1,4 @@
-use Rattle.std.proofs.Common.{◌≡◌, sym, ◌∙◌, arith}
+use Rattle.std.proofs.Common.{sym, ◌∙◌, arith}
 use Rattle.rules.specs.Rounds.{bid_at}
 use Rattle.auction.proofs.Reaching.{another_yes, another_next, another_end}
 use Rattle.auction.proofs.marks.of_two.Goals as goal

@@ -11,25 +11,25 @@ abbrev each : List Member → ℕ → ℕ → ℕ → ℕ → ℕ
 each members multiplier excused base a = min 1000000 (ceil (counted members excused a * multiplier * 1000) base)
 
 pub loop-a-init : goal.loop-a-init
-loop-a-init c = (refl, row_begun 64 (each c.args.members.now c.args.multiplier c.args.excused c.sum-counted-base.result))
+loop-a-init c = (refl, row_begun 64 (each c.args.members.now c.args.multiplier c.args.excused c.sum_counted-base.result))
 
-pub minimum-of-requires : goal.minimum-of-requires
-minimum-of-requires c = record {
-  low = counted_low c.args.members.now c.args.excused c.loop-a.a (record { name = record { bytes = [] }; contribution = 0 }) c.counted-of.result (omega arith) c.requires.contributing c.counted-of.ensures;
+pub minimum_of-requires : goal.minimum_of-requires
+minimum_of-requires c = record {
+  low = counted_low c.args.members.now c.args.excused c.loop-a.a (record { name = record { bytes = [] }; contribution = 0 }) c.counted_of.result (omega arith) c.requires.contributing c.counted_of.ensures;
   most = c.requires.most;
-  some = omega (arith, c.sum-counted-base.ensures.is, base_some c.args.members.now c.args.multiplier c.args.excused c.requires);
-  small = c.sum-counted-base.ensures.small;
+  some = omega (arith, c.sum_counted-base.ensures.is, base_some c.args.members.now c.args.multiplier c.args.excused c.requires);
+  small = c.sum_counted-base.ensures.small;
 }
 
 pub loop-a-preserved : goal.loop-a-preserved
 loop-a-preserved c =
     let inside : c.loop-a.a < 64 = omega (arith, c.requires.few) in
-    row_more 64 (each c.args.members.now c.args.multiplier c.args.excused c.sum-counted-base.result) c.loop-a.row c.loop-a.a c.minimum-of.result c.loop-a.invariant.0 inside c.loop-a.invariant.1
-    (c.minimum-of.ensures ∙ ap (λ (n : ℕ). min 1000000 (ceil (n * c.args.multiplier * 1000) c.sum-counted-base.result))
-    (counted_is c.args.members.now c.args.excused c.loop-a.a (record { name = record { bytes = [] }; contribution = 0 }) c.counted-of.result (omega arith) c.requires.contributing c.counted-of.ensures))
+    row_more 64 (each c.args.members.now c.args.multiplier c.args.excused c.sum_counted-base.result) c.loop-a.row c.loop-a.a c.minimum_of.result c.loop-a.invariant.0 inside c.loop-a.invariant.1
+    (c.minimum_of.ensures ∙ ap (λ (n : ℕ). min 1000000 (ceil (n * c.args.multiplier * 1000) c.sum_counted-base.result))
+    (counted_is c.args.members.now c.args.excused c.loop-a.a (record { name = record { bytes = [] }; contribution = 0 }) c.counted_of.result (omega arith) c.requires.contributing c.counted_of.ensures))
 
 pub returns : goal.returns
 returns c =
     let e : c.loop-a.a ≡ length c.args.members.now = omega arith in
-    asked c.args.members.now c.args.multiplier c.args.excused c.sum-counted-base.result c.loop-a.row c.requires c.sum-counted-base.ensures.is
-    (subst (λ (n : ℕ). Row n (each c.args.members.now c.args.multiplier c.args.excused c.sum-counted-base.result) c.loop-a.row) e c.loop-a.invariant.1)
+    asked c.args.members.now c.args.multiplier c.args.excused c.sum_counted-base.result c.loop-a.row c.requires c.sum_counted-base.ensures.is
+    (subst (λ (n : ℕ). Row n (each c.args.members.now c.args.multiplier c.args.excused c.sum_counted-base.result) c.loop-a.row) e c.loop-a.invariant.1)

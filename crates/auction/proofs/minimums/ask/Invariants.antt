@@ -1,4 +1,4 @@
-use Rattle.std.proofs.Common.{◌≡◌, ℕ, ◌*◌, min, length}
+use Rattle.std.proofs.Common.{◌≡◌, ◌*◌, min, length}
 use Rattle.rules.specs.Minimums.{ceil, counted}
 use Rattle.auction.specs.Rows.{Row}
 use Rattle.auction.proofs.minimums.ask.Given as goal

@@ -1,4 +1,4 @@
-use Rattle.std.proofs.Common.{◌≡◌, ℕ, ◌+◌, ◌-◌, ◌≤ℤ◌, arith}
+use Rattle.std.proofs.Common.{◌≡◌, ℕ, ◌-◌, ◌≤ℤ◌, arith}
 use borrow.Author.Differences.{ints}
 use Rattle.rules.specs.Rounds.{bid_at}
 use Rattle.auction.proofs.Falling.{falling}

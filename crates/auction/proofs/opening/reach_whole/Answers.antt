@@ -1,4 +1,4 @@
-use Rattle.std.proofs.Common.{◌≡◌, ◌≤◌, sym, arith, below_more}
+use Rattle.std.proofs.Common.{◌≤◌, sym, arith, below_more}
 use Rattle.shares.specs.Sums.{at}
 use Rattle.shares.proofs.Totals.{total_none, total_more}
 use Rattle.auction.proofs.opening.reach_whole.Goals as goal

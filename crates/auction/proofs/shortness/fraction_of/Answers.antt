@@ -1,10 +1,10 @@
-use Rattle.std.proofs.Common.{◌≡◌, ℕ, ◌*◌, ◌/◌, eqb, sym, refl, arith}
+use Rattle.std.proofs.Common.{◌*◌, ◌/◌, eqb, sym, arith}
 use Rattle.std.proofs.lemmas.Bool.{cond-false, ne_eqb}
 use Rattle.auction.proofs.Quotients.{fraction_low}
 use Rattle.auction.proofs.shortness.fraction_of.Goals as goal
 
-pub overflow-cast-result-3 : goal.overflow-cast-result-3
-overflow-cast-result-3 c = omega (arith, fraction_low c.args.shortfall c.args.minimum c.requires)
+pub overflow_cast-result-3 : goal.overflow_cast-result-3
+overflow_cast-result-3 c = omega (arith, fraction_low c.args.shortfall c.args.minimum c.requires)
 
 pub returns : goal.returns
 returns c = record {

@@ -9,8 +9,8 @@ pub loop-package-init : goal.loop-package-init
 loop-package-init c =
     (sym (total_none (margin_at c.args.packages.now)), sym (total_none (λ k. margin_at c.args.packages.now k * fraction_at c.args.packages.now k)), omega arith, omega arith, λ k l. absurd (omega arith))
 
-pub overflow-add-weighed : goal.overflow-add-weighed
-overflow-add-weighed c = omega (arith, product_low (margin_at c.args.packages.now c.loop-package.package-index) (fraction_at c.args.packages.now c.loop-package.package-index) (omega arith) (omega arith))
+pub overflow_add-weighed : goal.overflow_add-weighed
+overflow_add-weighed c = omega (arith, product_low (margin_at c.args.packages.now c.loop-package.package-index) (fraction_at c.args.packages.now c.loop-package.package-index) (omega arith) (omega arith))
 
 pub loop-package-preserved : goal.loop-package-preserved
 loop-package-preserved c = (
@@ -30,8 +30,8 @@ returns-then-margins-eq0 c =
       omega arith,
     )
 
-pub overflow-cast-result : goal.overflow-cast-result
-overflow-cast-result c =
+pub overflow_cast-result : goal.overflow_cast-result
+overflow_cast-result c =
     omega (arith, total_low c.args.packages.now c.loop-package.package-index c.loop-package.margins c.loop-package.weighed (omega arith) c.loop-package.invariant.0 c.loop-package.invariant.1 (λ k l. c.loop-package.invariant.4 k (omega arith)))
 
 pub returns : goal.returns

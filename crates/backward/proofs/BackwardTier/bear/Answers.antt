@@ -1,4 +1,4 @@
-use Rattle.std.proofs.Common.{◌≡◌, ℕ, ◌+◌, ◌-◌, sym, subst, arith}
+use Rattle.std.proofs.Common.{◌≡◌, ℕ, ◌+◌, ◌-◌, subst, arith}
 use Rattle.shares.specs.Sums.{at}
 use Rattle.tiers.proofs.Rising.{bore_by_rule}
 use Rattle.backward.specs.Charging.{last_first}

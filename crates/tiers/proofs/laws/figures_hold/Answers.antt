@@ -16,7 +16,7 @@ returns c =
         account_62 = refl;
         none_unborne = refl;
       };
-      by-tier = record {
+      by_tier = record {
         cash = refl;
         pledges = refl;
         past_estate = refl;

@@ -5,6 +5,6 @@ use Rattle.tiers.proofs.own.bear_own.Goals as goal
 pub returns : goal.returns
 returns c =
     own_bore (left_rows c.args.pile.now) (borne_rows c.args.pile.now) _ _ c.args.loss
-    c.bear-past-estate.result c.bear-past-share.result c.bear-past-juniors.result c.bear.result
-    c.bear-past-estate.ensures.bears c.bear-past-share.ensures.bears c.bear-past-juniors.ensures.bears c.bear.ensures.bears
-    c.bear-past-estate.ensures.charges c.bear-past-share.ensures.charges c.bear-past-juniors.ensures.charges c.bear.ensures.charges
+    c.bear-past_estate.result c.bear-past_share.result c.bear-past_juniors.result c.bear.result
+    c.bear-past_estate.ensures.bears c.bear-past_share.ensures.bears c.bear-past_juniors.ensures.bears c.bear.ensures.bears
+    c.bear-past_estate.ensures.charges c.bear-past_share.ensures.charges c.bear-past_juniors.ensures.charges c.bear.ensures.charges

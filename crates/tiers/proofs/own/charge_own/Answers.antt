@@ -4,6 +4,6 @@ use Rattle.tiers.proofs.own.charge_own.Goals as goal
 
 pub returns : goal.returns
 returns c =
-    own_charged c.args.estate-cash c.args.estate-pledges c.args.own-share (at c.args.juniors.now) (at c.args.seniors.now) c.args.loss
-    c.in-ok-pile.pile c.bear-own-unborne.new.pile c.borne-row-each.result c.bear-own-unborne.result
-    c.in-ok-pile.ensures c.bear-own-unborne.ensures c.borne-row-each.ensures.wide c.borne-row-each.ensures.each
+    own_charged c.args.estate_cash c.args.estate_pledges c.args.own_share (at c.args.juniors.now) (at c.args.seniors.now) c.args.loss
+    c.in_ok-pile.pile c.bear_own-unborne.new.pile c.borne_row-each.result c.bear_own-unborne.result
+    c.in_ok-pile.ensures c.bear_own-unborne.ensures c.borne_row-each.ensures.wide c.borne_row-each.ensures.each

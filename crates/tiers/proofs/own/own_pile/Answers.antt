@@ -4,7 +4,7 @@ use Rattle.tiers.proofs.own.own_pile.Goals as goal
 
 pub returns : goal.returns
 returns c =
-    own_made c.args.estate-cash c.args.estate-pledges c.args.own-share (at c.args.juniors.now) (at c.args.seniors.now) _
-    c.estate-row.result c.own-share-row.result c.member-row.result c.member-row-2.result
-    c.in-ok-estate.ensures c.in-ok-share.ensures c.in-ok-junior-parts.ensures c.in-ok-senior-parts.ensures
-    c.estate-row.ensures c.own-share-row.ensures c.member-row.ensures c.member-row-2.ensures
+    own_made c.args.estate_cash c.args.estate_pledges c.args.own_share (at c.args.juniors.now) (at c.args.seniors.now) _
+    c.estate_row.result c.own_share_row.result c.member_row.result c.member_row-2.result
+    c.in_ok-estate.ensures c.in_ok-share.ensures c.in_ok-junior_parts.ensures c.in_ok-senior_parts.ensures
+    c.estate_row.ensures c.own_share_row.ensures c.member_row.ensures c.member_row-2.ensures

@@ -12,7 +12,7 @@ pub loop-a-preserved : goal.loop-a-preserved
 loop-a-preserved c =
     let inside : c.loop-a.a < 64 = omega (arith, c.args.self.now.seats) in
     row_more 64 (credit (at c.args.self.now.minimums) (at c.args.allotments.now)) c.loop-a.row c.loop-a.a c.min.result c.loop-a.invariant.0 inside c.loop-a.invariant.1
-    (omega (arith, c.min.ensures, c.saturating-sub.ensures))
+    (omega (arith, c.min.ensures, c.saturating_sub.ensures))
 
 pub returns : goal.returns
 returns c =

@@ -1,6 +1,6 @@
 use Rattle.std.proofs.Common.{◌≡◌, ℕ, ◌<◌, length, refl, subst, arith}
 use Rattle.rules.specs.Books.{giving}
-use Rattle.auction.specs.Rows.{Row, Narrow}
+use Rattle.auction.specs.Rows.{Row}
 use Rattle.auction.specs.Ruled.{offered}
 use Rattle.auction.proofs.Writing.{row_begun, row_more, narrow_more}
 use Rattle.auction.proofs.orderly.OrderlyRound.give.Goals as goal
@@ -11,8 +11,8 @@ loop-i-init c = (refl, row_begun 96 (giving (offered c.args.self.now) c.args.par
 pub loop-i-preserved : goal.loop-i-preserved
 loop-i-preserved c =
     let inside : c.loop-i.i < 96 = omega (arith, c.args.self.now.few) in
-    let row = row_more 96 (giving (offered c.args.self.now) c.args.parts) c.loop-i.row c.loop-i.i c.give-to.result c.loop-i.invariant.0 inside c.loop-i.invariant.1 c.give-to.ensures.is in
-    (row.0, row.1, narrow_more c.loop-i.row c.loop-i.i c.give-to.result (omega arith) c.give-to.ensures.small c.loop-i.invariant.2)
+    let row = row_more 96 (giving (offered c.args.self.now) c.args.parts) c.loop-i.row c.loop-i.i c.give_to.result c.loop-i.invariant.0 inside c.loop-i.invariant.1 c.give_to.ensures.is in
+    (row.0, row.1, narrow_more c.loop-i.row c.loop-i.i c.give_to.result (omega arith) c.give_to.ensures.small c.loop-i.invariant.2)
 
 pub returns : goal.returns
 returns c =

@@ -1,4 +1,4 @@
-use Rattle.std.proofs.Common.{◌≡◌, ℕ, length}
+use Rattle.std.proofs.Common.{◌≡◌, length}
 use Rattle.rules.specs.Books.{giving}
 use Rattle.auction.specs.Rows.{Row, Narrow}
 use Rattle.auction.specs.Ruled.{offered}

@@ -15,9 +15,9 @@ loop-i-init c = begun (each c.args.self.now c.args.givings.now c.args.member)
 
 pub loop-i-preserved : goal.loop-i-preserved
 loop-i-preserved c =
-    let low : c.if-so-sum.result ≤ 4294967295 =
-    omega (arith, c.if-so-sum.ensures, when_low (eqb (bid_at c.args.self.now.bids.now c.loop-i.i).member c.args.member) (at c.args.givings.now c.loop-i.i) 4294967295 (c.requires c.loop-i.i (omega arith))) in
-    added (each c.args.self.now c.args.givings.now c.args.member) c.loop-i.i c.loop-i.sum c.if-so-sum.result c.if-so-sum.ensures low c.loop-i.invariant
+    let low : c.if_so-sum.result ≤ 4294967295 =
+    omega (arith, c.if_so-sum.ensures, when_low (eqb (bid_at c.args.self.now.bids.now c.loop-i.i).member c.args.member) (at c.args.givings.now c.loop-i.i) 4294967295 (c.requires c.loop-i.i (omega arith))) in
+    added (each c.args.self.now c.args.givings.now c.args.member) c.loop-i.i c.loop-i.sum c.if_so-sum.result c.if_so-sum.ensures low c.loop-i.invariant
 
 pub returns : goal.returns
 returns c =

@@ -16,10 +16,10 @@ loop-bid-init c = begun (each c.args.self.now c.args.i)
 
 pub loop-bid-preserved : goal.loop-bid-preserved
 loop-bid-preserved c =
-    added (each c.args.self.now c.args.i) c.loop-bid.bid-index c.loop-bid.sum c.size-if-higher-sum.result
-    (higher_is c.args.self.now.bids.now c.args.self.now.mark c.args.self.now.margin c.loop-bid.bid-index c.size-if-higher-sum.result
-    (bid_at c.args.self.now.bids.now c.args.i).price c.size-if-higher-sum.ensures.is)
-    c.size-if-higher-sum.ensures.small c.loop-bid.invariant
+    added (each c.args.self.now c.args.i) c.loop-bid.bid-index c.loop-bid.sum c.size_if_higher-sum.result
+    (higher_is c.args.self.now.bids.now c.args.self.now.mark c.args.self.now.margin c.loop-bid.bid-index c.size_if_higher-sum.result
+    (bid_at c.args.self.now.bids.now c.args.i).price c.size_if_higher-sum.ensures.is)
+    c.size_if_higher-sum.ensures.small c.loop-bid.invariant
 
 pub returns : goal.returns
 returns c =

@@ -1,4 +1,4 @@
-use Rattle.std.proofs.Common.{◌≡◌, ℕ, length, ap, ◌∙◌, arith}
+use Rattle.std.proofs.Common.{◌≡◌, ℕ, ap, ◌∙◌, arith}
 use Rattle.shares.specs.Sums.{total}
 use Rattle.rules.specs.Books.{alongside}
 use Rattle.rules.specs.Rounds.{bid_at}
@@ -16,10 +16,10 @@ loop-k-init c = begun (each c.args.self.now c.args.i)
 
 pub loop-k-preserved : goal.loop-k-preserved
 loop-k-preserved c =
-    added (each c.args.self.now c.args.i) c.loop-k.k c.loop-k.sum c.size-if-level-sum.result
-    (alongside_is c.args.self.now.bids.now c.args.self.now.mark c.args.self.now.margin c.loop-k.k c.size-if-level-sum.result
-    (bid_at c.args.self.now.bids.now c.args.i).price c.size-if-level-sum.ensures.is)
-    c.size-if-level-sum.ensures.small c.loop-k.invariant
+    added (each c.args.self.now c.args.i) c.loop-k.k c.loop-k.sum c.size_if_level-sum.result
+    (alongside_is c.args.self.now.bids.now c.args.self.now.mark c.args.self.now.margin c.loop-k.k c.size_if_level-sum.result
+    (bid_at c.args.self.now.bids.now c.args.i).price c.size_if_level-sum.ensures.is)
+    c.size_if_level-sum.ensures.small c.loop-k.invariant
 
 pub returns : goal.returns
 returns c =

@@ -15,9 +15,9 @@ loop-bid-init c = begun (each c.args.self.now c.args.member)
 
 pub loop-bid-preserved : goal.loop-bid-preserved
 loop-bid-preserved c =
-    let is = member_is c.args.self.now.bids.now c.args.self.now.mark c.args.self.now.margin c.loop-bid.bid-index c.market-size.result c.if-so-sum.result c.args.member
-    c.market-size.ensures.is c.market-size.ensures.small c.if-so-sum.ensures in
-    added (each c.args.self.now c.args.member) c.loop-bid.bid-index c.loop-bid.sum c.if-so-sum.result is.0 is.1 c.loop-bid.invariant
+    let is = member_is c.args.self.now.bids.now c.args.self.now.mark c.args.self.now.margin c.loop-bid.bid-index c.market_size.result c.if_so-sum.result c.args.member
+    c.market_size.ensures.is c.market_size.ensures.small c.if_so-sum.ensures in
+    added (each c.args.self.now c.args.member) c.loop-bid.bid-index c.loop-bid.sum c.if_so-sum.result is.0 is.1 c.loop-bid.invariant
 
 pub returns : goal.returns
 returns c =

@@ -15,7 +15,7 @@ loop-a-init c = (refl, row_begun 64 (each c.args.self.now.minimums c.args.credit
 pub loop-a-preserved : goal.loop-a-preserved
 loop-a-preserved c =
     let inside : c.loop-a.a < 64 = omega (arith, c.args.self.now.seats) in
-    row_more 64 (each c.args.self.now.minimums c.args.credits.now) c.loop-a.row c.loop-a.a c.if-so.result c.loop-a.invariant.0 inside c.loop-a.invariant.1 c.if-so.ensures
+    row_more 64 (each c.args.self.now.minimums c.args.credits.now) c.loop-a.row c.loop-a.a c.if_so.result c.loop-a.invariant.0 inside c.loop-a.invariant.1 c.if_so.ensures
 
 pub returns : goal.returns
 returns c =

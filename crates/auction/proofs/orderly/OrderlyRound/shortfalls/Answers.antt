@@ -13,8 +13,8 @@ loop-a-init c = (refl, row_begun 64 (shortfall (ruled_orderly c.args.self.now)))
 pub loop-a-preserved : goal.loop-a-preserved
 loop-a-preserved c =
     let inside : c.loop-a.a < 64 = omega (arith, c.args.self.now.seats) in
-    row_more 64 (shortfall (ruled_orderly c.args.self.now)) c.loop-a.row c.loop-a.a c.saturating-sub.result c.loop-a.invariant.0 inside c.loop-a.invariant.1
-    (lack_is c.args.self.now c.loop-a.a c.market-size-of.result c.saturating-sub.result c.market-size-of.ensures c.saturating-sub.ensures)
+    row_more 64 (shortfall (ruled_orderly c.args.self.now)) c.loop-a.row c.loop-a.a c.saturating_sub.result c.loop-a.invariant.0 inside c.loop-a.invariant.1
+    (lack_is c.args.self.now c.loop-a.a c.market_size_of.result c.saturating_sub.result c.market_size_of.ensures c.saturating_sub.ensures)
 
 pub returns : goal.returns
 returns c =

@@ -2,8 +2,8 @@ use Rattle.std.proofs.Common.{sym, refl, arith, rules}
 use Rattle.callfile.proofs.Steps.{decode_is, moved_is, decode_end, moved_end, call_within}
 use Rattle.callfile.proofs.reader.Reader.next.Goals as goal
 
-pub overflow-add-self : goal.overflow-add-self
-overflow-add-self c =
+pub overflow_add-self : goal.overflow_add-self
+overflow_add-self c =
     let n = call_within c.args.self.now.file.now c.args.self.now.place c.in-Ok.call c.in-Ok.size (omega arith) c.in-Ok.ensures in
     search rules
 

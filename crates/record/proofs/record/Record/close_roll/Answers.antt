@@ -1,9 +1,7 @@
-use Rattle.std.proofs.Common.{◌≡◌, Ok, refl}
-use Rattle.ranked.specs.Table.{listed}
+use Rattle.std.proofs.Common.{refl}
 use Rattle.rules.specs.Calls.Call.{close_roll}
 use Rattle.record.specs.Look.{state}
-use Rattle.record.specs.View.{state_of}
-use Rattle.record.proofs.Calls.{Kept, accepts, refuses}
+use Rattle.record.proofs.Calls.{accepts, refuses}
 use Rattle.record.proofs.record.Record.close_roll.Goals as goal
 
 pub returns-in-Some : goal.returns-in-Some
@@ -11,12 +9,12 @@ returns-in-Some c =
     let k = refuses {A = Unit {0}} (state c.args.self.now) close_roll tt c.in-Some.refusal c.args.self.now.came c.in-Some.ensures tt in
     record { did = k.did; lawful = k.lawful }
 
-pub invariant-of-self : goal.invariant-of-self
-invariant-of-self c =
-    let k = accepts {A = Unit {0}} (state c.args.self.now) close_roll tt _ c.args.self.now.came c.in-default.ensures tt refl in
-    (k.came, (c.args.self.now.room, tt))
+pub invariant_of-self : goal.invariant_of-self
+invariant_of-self c =
+    let k = accepts {A = Unit {0}} (state c.args.self.now) close_roll tt _ c.args.self.now.came c.in_default.ensures tt refl in
+    record { came = k.came; room = c.args.self.now.room }
 
 pub returns : goal.returns
 returns c =
-    let k = accepts {A = Unit {0}} (state c.args.self.now) close_roll tt _ c.args.self.now.came c.in-default.ensures tt refl in
+    let k = accepts {A = Unit {0}} (state c.args.self.now) close_roll tt _ c.args.self.now.came c.in_default.ensures tt refl in
     record { did = k.did; lawful = k.lawful }

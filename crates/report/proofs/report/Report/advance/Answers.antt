@@ -1,47 +1,47 @@
-use Rattle.std.proofs.Common.{◌^◌, ◌<◌, length, Some, sym, ap, ◌∙◌, arith, rules}
+use Rattle.std.proofs.Common.{length, Some, sym, ap, ◌∙◌, arith, rules}
 use Rattle.record.specs.Look.{state}
 use Rattle.report.specs.Left.{file_of}
 use Rattle.report.proofs.Running.{at_end, at_stop, at_call, ends_nearer, call_within, call_nearer, stays_at_end, stays_at_fault}
 use Rattle.report.proofs.report.Report.advance.Goals as goal
 
-pub returns-in-default : goal.returns-in-default
-returns-in-default c =
+pub returns-in_default : goal.returns-in_default
+returns-in_default c =
     let r = c.args.self.now in
-    let told = c.in-default.ensures in
+    let told = c.in_default.ensures in
     record {
       file = told.file;
       lines = at_end r.ended c.requires (state r.ledger) r.count (file_of r) r.reader.place told.answer;
       nearer = ends_nearer r.ended c.requires (file_of r) r.reader.place;
     }
 
-pub invariant-of-self : goal.invariant-of-self
-invariant-of-self c =
+pub invariant_of-self : goal.invariant_of-self
+invariant_of-self c =
     let r = c.args.self.now in
-    let told = c.in-default.ensures in
+    let told = c.in_default.ensures in
     let same = stays_at_end (file_of r) r.reader.place c.next.new.self.place told.place told.answer in
-    (omega (arith, r.few, same), (omega (arith, r.short, ap length told.file), tt))
+    record { few = omega (arith, r.few, same); short = omega (arith, r.short, ap length told.file) }
 
-pub invariant-of-self-in-Err : goal.invariant-of-self-in-Err
-invariant-of-self-in-Err c =
+pub invariant_of-self-in-Err : goal.invariant_of-self-in-Err
+invariant_of-self-in-Err c =
     let r = c.args.self.now in
     let told = c.in-Some.ensures in
     let same = stays_at_fault (file_of r) r.reader.place c.next.new.self.place c.in-Err.fault told.place (ap Some (sym c.in-Err.is) ∙ told.answer) in
-    (omega (arith, r.few, same), (omega (arith, r.short, ap length told.file), tt))
+    record { few = omega (arith, r.few, same); short = omega (arith, r.short, ap length told.file) }
 
-pub overflow-add-self : goal.overflow-add-self
-overflow-add-self c =
+pub overflow_add-self : goal.overflow_add-self
+overflow_add-self c =
     let r = c.args.self.now in
     let told = c.in-Some.ensures in
     let w = call_within r.ended c.requires (file_of r) r.reader.place c.next.new.self.place c.in-Ok.call told.place (ap Some (sym c.in-Ok.is) ∙ told.answer) in
     let long = r.short in
     search rules
 
-pub invariant-of-self-in-Ok : goal.invariant-of-self-in-Ok
-invariant-of-self-in-Ok c =
+pub invariant_of-self-in-Ok : goal.invariant_of-self-in-Ok
+invariant_of-self-in-Ok c =
     let r = c.args.self.now in
     let told = c.in-Some.ensures in
     let w = call_within r.ended c.requires (file_of r) r.reader.place c.next.new.self.place c.in-Ok.call told.place (ap Some (sym c.in-Ok.is) ∙ told.answer) in
-    (omega (arith, r.few, w), (omega (arith, r.short, ap length told.file), tt))
+    record { few = omega (arith, r.few, w); short = omega (arith, r.short, ap length told.file) }
 
 pub returns-in-Err : goal.returns-in-Err
 returns-in-Err c =

@@ -1,7 +1,7 @@
-use Rattle.std.proofs.Common.{◌≡◌, length, take, ap, ◌∙◌, zero-le, arith, length-take}
+use Rattle.std.proofs.Common.{length, ap, ◌∙◌, zero-le, arith, length-take}
 use Rattle.report.proofs.report.Report.new.Goals as goal
 
-pub invariant-of-result : goal.invariant-of-result
-invariant-of-result c =
+pub invariant_of-result : goal.invariant_of-result
+invariant_of-result c =
     let file = c.new-2.ensures.file ∙ c.front.ensures in
-    (zero-le, (omega (arith, ap length file, length-take 65536 c.args.file.now), tt))
+    record { few = zero-le; short = omega (arith, ap length file, length-take 65536 c.args.file.now) }

@@ -1,21 +1,21 @@
-use Rattle.std.proofs.Common.{◌≡◌, None, rules}
+use Rattle.std.proofs.Common.{rules}
 use Rattle.text.proofs.Writes.{tried_last, tried_then, tried_short}
 use Rattle.report.proofs.report.lines.put_pair.Goals as goal
 
-pub returns-in-err-at : goal.returns-in-err-at
-returns-in-err-at c = tried_short _ (search rules) c.in-err-at.ensures
+pub returns-in_err-at : goal.returns-in_err-at
+returns-in_err-at c = tried_short _ (search rules) c.in_err-at.ensures
 
-pub returns-in-err-at-2 : goal.returns-in-err-at-2
-returns-in-err-at-2 c = tried_then c.in-ok-at.ensures (tried_short _ (search rules) c.in-err-at-2.ensures)
+pub returns-in_err-at-2 : goal.returns-in_err-at-2
+returns-in_err-at-2 c = tried_then c.in_ok-at.ensures (tried_short _ (search rules) c.in_err-at-2.ensures)
 
-pub returns-in-err-at-3 : goal.returns-in-err-at-3
-returns-in-err-at-3 c = tried_then c.in-ok-at.ensures (tried_then c.in-ok-at-2.ensures (tried_short _ (search rules) c.in-err-at-3.ensures))
+pub returns-in_err-at-3 : goal.returns-in_err-at-3
+returns-in_err-at-3 c = tried_then c.in_ok-at.ensures (tried_then c.in_ok-at-2.ensures (tried_short _ (search rules) c.in_err-at-3.ensures))
 
-pub returns-in-err-at-4 : goal.returns-in-err-at-4
-returns-in-err-at-4 c = tried_then c.in-ok-at.ensures (tried_then c.in-ok-at-2.ensures (tried_then c.in-ok-at-3.ensures (tried_short _ (search rules) c.in-err-at-4.ensures)))
+pub returns-in_err-at-4 : goal.returns-in_err-at-4
+returns-in_err-at-4 c = tried_then c.in_ok-at.ensures (tried_then c.in_ok-at-2.ensures (tried_then c.in_ok-at-3.ensures (tried_short _ (search rules) c.in_err-at-4.ensures)))
 
-pub returns-in-err-at-5 : goal.returns-in-err-at-5
-returns-in-err-at-5 c = tried_then c.in-ok-at.ensures (tried_then c.in-ok-at-2.ensures (tried_then c.in-ok-at-3.ensures (tried_then c.in-ok-at-4.ensures (tried_short _ (search rules) c.in-err-at-5.ensures))))
+pub returns-in_err-at-5 : goal.returns-in_err-at-5
+returns-in_err-at-5 c = tried_then c.in_ok-at.ensures (tried_then c.in_ok-at-2.ensures (tried_then c.in_ok-at-3.ensures (tried_then c.in_ok-at-4.ensures (tried_short _ (search rules) c.in_err-at-5.ensures))))
 
 pub returns : goal.returns
-returns c = tried_then c.in-ok-at.ensures (tried_then c.in-ok-at-2.ensures (tried_then c.in-ok-at-3.ensures (tried_then c.in-ok-at-4.ensures (tried_then c.in-ok-at-5.ensures (tried_last c.put-byte-3.result c.put-byte-3.ensures)))))
+returns c = tried_then c.in_ok-at.ensures (tried_then c.in_ok-at-2.ensures (tried_then c.in_ok-at-3.ensures (tried_then c.in_ok-at-4.ensures (tried_then c.in_ok-at-5.ensures (tried_last c.put_byte-3.result c.put_byte-3.ensures)))))

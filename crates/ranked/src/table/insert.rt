@@ -42,6 +42,14 @@ impl<T: Rank + Drop> OrderedTable<T> {
         Some(i)
     }
 
+    // Takes every record out; the memory stays.
+    pub fn clear(&mut self)
+        ensures empty { listed self.new ≡ [] }
+        ensures limit { self.new.limit ≡ self.old.limit }
+    {
+        self.records.clear();
+    }
+
     // Whatever arrives, an empty table ends up with all of it in order of rank, level ones as they came.
     pub fn keeps_order() -> u8
         ensures { (xs : List T) → Keeps T.ranks xs }

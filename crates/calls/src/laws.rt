@@ -1,0 +1,9 @@
+// What holds after every list of calls.
+ghost use Rattle.calls.specs.Laws.{EveryList};
+
+// The law of every list of calls on a new record, accepted and refused.
+pub fn every_list() -> u8
+    ensures { EveryList }
+{
+    0
+}

@@ -1,0 +1,12 @@
+use Rattle.std.proofs.Common.{rules}
+use Rattle.text.proofs.Writes.{tried_last, tried_then, tried_short}
+use Rattle.lines.proofs.Trying.{tried_amount}
+use Rattle.lines.proofs.put.put_amount.Goals as goal
+
+pub returns-in_err-at : goal.returns-in_err-at
+returns-in_err-at c = tried_short _ (search rules) c.in_err-at.ensures
+
+pub returns : goal.returns
+returns c =
+    tried_amount c.args.amount c.ranges.amount
+    (tried_then c.in_ok-at.ensures (tried_last c.put_signed.result c.put_signed.ensures))

@@ -1,7 +1,7 @@
 -- The limits that a record keeps.
 use Rattle.std.specs.Prelude.{◌≡◌, ℕ, ◌^◌, ◌<◌, ◌≤◌, true, false, List, length, Some, None, Option, slice_index_or, unsigned_abs}
 use Rattle.std.specs.Ordering.{is_lt}
-use Rattle.std.specs.List.{AllByRecursion as All}
+use Rattle.std.specs.List.{AllByRecursion}
 use Rattle.ranked.specs.Order.{InOrder}
 use Rattle.rules.specs.declared.bid.Bid.{Bid}
 use Rattle.rules.specs.declared.member.Member.{Member}
@@ -27,7 +27,7 @@ pub record KeptBid (n : ℕ) (b : Bid) : Type 0 where
 -- a round with n members
 pub record KeptBidding (n : ℕ) (r : Bidding) : Type 0 where
   pub few : length r.bids ≤ 96
-  pub each : All (KeptBid n) r.bids
+  pub each : AllByRecursion (KeptBid n) r.bids
   -- in rank order
   pub in_order : InOrder by_price r.bids
   -- one member's sizes together do not pass the whole
@@ -73,6 +73,6 @@ pub record Bounded (s : State) : Type 0 where
   pub packages_few : length s.packages ≤ 8
   -- before the roll is closed there is none
   pub packages_none : is_roll s.stage ≡ true → length s.packages ≡ 0
-  pub packages_kept : All (KeptPackage (length s.members)) s.packages
+  pub packages_kept : AllByRecursion (KeptPackage (length s.members)) s.packages
   pub outcome_kept : KeptOutcome s.outcome
   pub charges_kept : KeptCharges s.charges

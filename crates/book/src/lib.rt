@@ -4,3 +4,5 @@
 
 pub mod packages;
 mod round;
+#[cfg(test)]
+mod tests;

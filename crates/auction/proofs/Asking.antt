@@ -1,9 +1,11 @@
 -- The minimums of a first round, computed.
-use Rattle.std.proofs.Common.{◌≡◌, ℕ, zero, suc, ◌+◌, ◌*◌, ◌<◌, ◌≤◌, min, Bool, true, false, not, ◌&&◌, List, length, get_or, refl, ap, ◌∙◌, inl, inr, mul-le-mul, add-one, arith}
+use Rattle.std.proofs.Common.{◌≡◌, ℕ, zero, suc, ◌+◌, ◌-◌, ◌*◌, ◌/◌, ◌%◌, ◌<◌, ◌≤◌, min, Bool, true, false, not, ◌&&◌, List, length, get_or, sym, refl, ap, ◌∙◌, inl, inr, add-one, arith}
 use Rattle.std.proofs.lemmas.List.{get_or_default}
 use Rattle.std.proofs.lemmas.Bool.{cases_lt}
+use Rattle.std.proofs.lemmas.Grind.{div_ceil_times}
+use native.Mathlib.Nat.{div-eq_of_lt-le}
 use Rattle.shares.specs.Sums.{at, total}
-use Rattle.shares.proofs.Totals.{total_more, total_within, total_same}
+use Rattle.shares.proofs.Totals.{total_within, total_same}
 use Rattle.rules.specs.declared.member.Member.{Member}
 use Rattle.rules.specs.Amounts.{when}
 use Rattle.rules.specs.Members.{nobody}
@@ -11,7 +13,6 @@ use Rattle.rules.specs.Minimums.{contributed, is_excused, all_excused, counted, 
 use Rattle.rules.proofs.Covering.{minimums_reach, some_serves}
 use Rattle.auction.specs.Asked.{Askable, Asked, Contributing}
 use Rattle.auction.specs.Rows.{Row}
-use Rattle.auction.proofs.Summing.{when_low}
 
 -- within the list a contribution is read whatever the default
 pub read_is : (members : List Member) (a : ℕ) (d : Member) → a < length members → (get_or members a d).contribution ≡ contributed members a
@@ -32,17 +33,13 @@ all_not set a (suc n) here l =
     and_false true = refl
     and_false false = refl
 
-module _ (members : List Member) (excused a : ℕ) (d : Member) (r : ℕ) (inside : a < length members) (low : Contributing members)
-    (er : r ≡ when (not (is_excused excused a)) (get_or members a d).contribution) where
-  pub counted_is : r ≡ counted members excused a
-  counted_is = er ∙ ap (λ (n : ℕ). when (not (is_excused excused a)) n) (read_is members a d inside)
+-- and is within its limit
+pub read_low : (members : List Member) (a : ℕ) (d : Member) → Contributing members → a < length members → (get_or members a d).contribution ≤ 25000000
+read_low members a d low l = omega (arith, read_is members a d l, low a l)
 
-  pub counted_low : r ≤ 25000000
-  counted_low = omega (arith, counted_is, when_low (not (is_excused excused a)) (contributed members a) 25000000 (low a inside).1)
-
-  pub counted_added : (s : ℕ) → (s ≡ total a (counted members excused)) × (s ≤ 25000000 * a) →
-      (s + r ≡ total (a + 1) (counted members excused)) × (s + r ≤ 25000000 * (a + 1))
-  counted_added s (so, bound) = (omega (arith, total_more a (counted members excused), counted_is), omega (arith, counted_low))
+-- what is read of it counts
+pub counted_is : (members : List Member) (excused a : ℕ) (d : Member) → a < length members → when (not (is_excused excused a)) (get_or members a d).contribution ≡ counted members excused a
+counted_is members excused a d l = ap (λ (n : ℕ). when (not (is_excused excused a)) n) (read_is members a d l)
 
 -- somebody's contribution counts
 pub base_some : (members : List Member) (multiplier excused : ℕ) → Askable members multiplier excused → 0 < total (length members) (counted members excused)
@@ -51,8 +48,12 @@ base_some members multiplier excused ask =
     let here : counted members excused s.0 ≡ contributed members s.0 = ap (λ (t : Bool). when (not t) (contributed members s.0)) s.2 in
     omega (arith, here, (ask.contributing s.0 s.1).0, total_within (length members) (counted members excused) s.0 s.1)
 
-pub product_low : (w x : ℕ) → w ≤ 25000000 → x ≤ 4000 → w * x ≤ 100000000000
-product_low w x h k = omega (arith, mul-le-mul h k)
+-- the quotient that the library rounds up
+pub ceil_is : (n k : ℕ) → 0 < k → n / k + min 1 (n % k) ≡ ceil n k
+unfolding ceil
+ceil_is n k h =
+    let t = div_ceil_times n k h in
+    sym (div-eq_of_lt-le {k = n / k + min 1 (n % k)} k {m = n + (k - 1)} (omega (arith, t.1)) (omega (arith, t.0)))
 
 pub asked : (members : List Member) (multiplier excused base : ℕ) (row : List ℕ) → Askable members multiplier excused → base ≡ total (length members) (counted members excused) →
     Row (length members) (λ a. min 1000000 (ceil (counted members excused a * multiplier * 1000) base)) row → Asked members multiplier excused row

@@ -1,13 +1,11 @@
 pub mod Reaching
-pub mod Wide
 pub mod Summing
-pub mod Writing
+pub mod Showing
 pub mod Levels
 pub mod Spreading
 pub mod Pricing
 pub mod Falling
 pub mod Composing
-pub mod Checked
 pub mod Asking
 pub mod Quotients
 pub mod Raising

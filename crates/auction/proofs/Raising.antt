@@ -1,5 +1,5 @@
 -- The row of second minimums.
-use Rattle.std.proofs.Common.{◌≡◌, ℕ, ◌+◌, ◌-◌, ◌<◌, min, eqb, List, ap, ◌∙◌, arith}
+use Rattle.std.proofs.Common.{◌≡◌, ℕ, ◌+◌, ◌-◌, ◌<◌, ◌≤◌, min, eqb, List, ap, ◌∙◌, arith}
 use Rattle.shares.specs.Sums.{at, total}
 use Rattle.shares.specs.Shares.{share}
 use Rattle.shares.proofs.Totals.{total_same}
@@ -10,23 +10,20 @@ use Rattle.rules.specs.Residuals.{credit, rising, rise, second_minimum, cut_allo
 use Rattle.rules.proofs.Credits.{second_minimums_cover, second_minimums_bounded, second_none}
 use Rattle.auction.specs.Rows.{Row}
 use Rattle.auction.specs.Seconds.{AskedAgain}
+use Rattle.auction.proofs.Showing.{row_same, row_total}
 
-pub raised : (m : ℕ) (minimum allotted : ℕ → ℕ) (credits risings rises row : List ℕ) (all base : ℕ) →
-    Row m (credit minimum allotted) credits → Row m (λ a. when (eqb (at credits a) 0) (minimum a)) risings → all ≡ total m (at credits) → base ≡ total m (at risings) →
-    Row m (share all base (at risings)) rises → Row m (λ a. min 1000000 (minimum a - at credits a + at rises a)) row → Row m (second_minimum m minimum allotted) row
+pub raised : (m : ℕ) (minimum allotted : ℕ → ℕ) (credits risings rises row : List ℕ) (all base : ℕ) → m ≤ 64 →
+    Row m (credit minimum allotted) credits → Row m (λ a. when (eqb (at credits a) 0) (minimum a)) risings → all ≡ total 64 (at credits) → base ≡ total 64 (at risings) →
+    ((a : ℕ) → at rises a ≡ share all base (at risings) a) → Row m (λ a. min 1000000 (minimum a - at credits a + at rises a)) row → Row m (second_minimum m minimum allotted) row
 unfolding second_minimum
-raised m minimum allotted credits risings rises row all base ec er ea eb es ew =
-    let up : (k : ℕ) → k < m → at risings k ≡ rising minimum allotted k = λ k h. er.shows k h ∙ ap (λ (c : ℕ). when (eqb c 0) (minimum k)) (ec.shows k h) in
-    let ca : all ≡ total m (credit minimum allotted) = ea ∙ total_same m (at credits) (credit minimum allotted) ec.shows in
-    let cb : base ≡ total m (rising minimum allotted) = eb ∙ total_same m (at risings) (rising minimum allotted) up in
-    record {
-      shows = λ a l.
-          let s : at rises a ≡ rise m minimum allotted a =
-          es.shows a l ∙ share_same all base (at risings) (rising minimum allotted) m up a l ∙ ap (λ (t : ℕ). share t base (rising minimum allotted) a) ca
-          ∙ ap (λ (t : ℕ). share (total m (credit minimum allotted)) t (rising minimum allotted) a) cb in
-          ew.shows a l ∙ ap (λ (c : ℕ). min 1000000 (minimum a - c + at rises a)) (ec.shows a l) ∙ ap (λ (n : ℕ). min 1000000 (minimum a - credit minimum allotted a + n)) s;
-      blank = ew.blank;
-    }
+raised m minimum allotted credits risings rises row all base few ec er ea eb es ew =
+    let up : Row m (rising minimum allotted) risings = row_same _ _ _ er (rising minimum allotted) (λ k h. ap (λ (c : ℕ). when (eqb c 0) (minimum k)) (ec.shows k h)) in
+    let rose : (a : ℕ) → a < m → at rises a ≡ rise m minimum allotted a = λ a l.
+    es a ∙ share_same all base (at risings) (rising minimum allotted) m up.shows a l
+    ∙ ap (λ (t : ℕ). share t base (rising minimum allotted) a) (ea ∙ row_total _ _ _ ec 64 few)
+    ∙ ap (λ (t : ℕ). share (total m (credit minimum allotted)) t (rising minimum allotted) a) (eb ∙ row_total _ _ _ up 64 few) in
+    row_same _ _ _ ew (second_minimum m minimum allotted)
+    (λ a l. ap (λ (c : ℕ). min 1000000 (minimum a - c + at rises a)) (ec.shows a l) ∙ ap (λ (n : ℕ). min 1000000 (minimum a - credit minimum allotted a + n)) (rose a l))
 
 -- equal allotments make equal second minimums
 module _ (m : ℕ) (minimum f g : ℕ → ℕ) (same : (a : ℕ) → a < m → f a ≡ g a) where

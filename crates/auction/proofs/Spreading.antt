@@ -1,37 +1,38 @@
--- The running shares over the first weights of a row.
-use Rattle.std.proofs.Common.{◌≡◌, ℕ, ◌+◌, ◌<◌, ◌≤◌, Bool, List, length, take, replicate, ap, ◌∙◌, arith, length-take-le, get_or-take}
+-- The running shares over the weights of a row.
+use Rattle.std.proofs.Common.{◌≡◌, ℕ, ◌+◌, ◌<◌, ◌≤◌, Result, List, length, ℤ, pos, negsuc, refl, sym, ◌∙◌, inl, inr, arith}
+use Rattle.std.proofs.lemmas.Bool.{cases_lt}
+use Rattle.std.proofs.lemmas.List.{get_or_past}
 use Rattle.shares.specs.Sums.{at, total}
 use Rattle.shares.specs.Shares.{share}
 use Rattle.shares.specs.Outcomes.{SharedOut, Fits}
-use Rattle.shares.proofs.Totals.{total_same, total_grows}
-use Rattle.shares.proofs.Sharing.{share_same, share_at_most}
-use Rattle.auction.specs.Rows.{Row}
-use Rattle.auction.proofs.Writing.{row_begun}
+use Rattle.shares.specs.declared.Unshared.{Unshared}
+use Rattle.rules.specs.Amounts.{signed_as}
+use Rattle.shares.proofs.Totals.{total_grows}
+use Rattle.shares.proofs.Sharing.{share_at_most, share_weightless}
 
-module _ (amount base count : ℕ) (weights new : List ℕ) (done : Bool) (long : length weights ≡ 64) (few : count ≤ 64)
-    (within : total count (at weights) ≤ base) (out : SharedOut amount base (take count weights) (replicate 64 0) new done) where
-  abbrev part : List ℕ
-  part = take count weights
-
-  size : length part ≡ count
-  size = length-take-le count weights (omega arith)
-
-  same : (a : ℕ) → a < count → at part a ≡ at weights a
-  same a h = get_or-take count weights a 0 h
-
-  fitting : Fits base part (replicate 64 0)
-  fitting = record {
-    room = omega (arith, size);
-    within = omega (arith, total_same count (at part) (at weights) same, ap (λ (n : ℕ). total n (at part)) size);
-  }
-
-  pub spread : Row count (share amount base (at weights)) new
-  spread = record {
-    shows = λ a h. out.each (out.accepts fitting) a (omega (arith, size)) ∙ share_same amount base (at part) (at weights) count same a h;
-    blank = λ a h. out.rest a (omega (arith, size)) ∙ (row_begun 64 (at weights)).blank a (omega arith);
-  }
+-- shared out to as many places, each weight has its share
+pub spread : (amount base : ℕ) (weights old new : List ℕ) (answer : Result (Unit {0}) Unshared) → length weights ≡ length old → total (length weights) (at weights) ≤ base →
+    SharedOut amount base weights old new answer → (a : ℕ) → at new a ≡ share amount base (at weights) a
+spread amount base weights old new answer long within out a =
+    let fits : Fits base weights old = record { room = omega arith; within = within } in
+    elim (cases_lt a (length weights)) [
+      | inl l ↦ out.each (out.accepts fits) a l
+      | inr l ↦ get_or_past new a 0 (omega (arith, out.size)) ∙ sym (share_weightless amount base (at weights) a (get_or_past weights a 0 l))
+    ]
 
 -- none passes the amount
-pub spread_low : (amount base count : ℕ) (w : ℕ → ℕ) (row : List ℕ) → total count w ≤ base → Row count (share amount base w) row → (a : ℕ) → a < count → at row a ≤ amount
-spread_low amount base count w row within so a h =
-    omega (arith, so.shows a h, share_at_most amount base w a (omega (arith, total_grows (a + 1) count w (omega arith))))
+pub spread_low : (amount base n : ℕ) (w : ℕ → ℕ) → total n w ≤ base → (a : ℕ) → a < n → share amount base w a ≤ amount
+spread_low amount base n w within a h = share_at_most amount base w a (omega (arith, total_grows (a + 1) n w (omega arith)))
+
+-- of a list's weights, at any place
+pub spread_under : (amount base : ℕ) (weights : List ℕ) → total (length weights) (at weights) ≤ base → (a : ℕ) → share amount base (at weights) a ≤ amount
+spread_under amount base weights within a =
+    elim (cases_lt a (length weights)) [
+      | inl l ↦ spread_low amount base (length weights) (at weights) within a l
+      | inr l ↦ omega (arith, share_weightless amount base (at weights) a (get_or_past weights a 0 l))
+    ]
+
+-- nothing has no sign
+pub signed_none : (z : ℤ) → signed_as z 0 ≡ pos 0
+signed_none (pos n) = refl
+signed_none (negsuc n) = refl

@@ -15,8 +15,8 @@ IsOrderly d = Orderly d.bids.now d.minimums d.members
 
 -- the same of a round that is known to be orderly
 abbrev pub ruled_orderly : OrderlyRound → Round
-ruled_orderly r = round_of r.bids.now r.minimums r.members r.reference r.margin
+ruled_orderly r = ruled r.round
 
 -- its market bids, by the mark that was found
 abbrev pub offered : OrderlyRound → Book
-offered r = market_at r.bids.now r.mark r.margin
+offered r = market_at r.round.bids.now r.mark r.round.margin

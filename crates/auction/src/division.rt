@@ -6,11 +6,14 @@ ghost use Rattle.auction.specs.Ruled.{IsOrderly, ruled, ruled_orderly};
 
 use crate::orderly::OrderlyRound;
 use crate::round::Round;
-use crate::rows::{shares_of, sum_of};
+use crate::rows::shares_of;
 use crate::transfers::transfers;
+use crate::whole::within_whole;
+use shares::rows::sum_of;
 
-// Givings stand by the places of the bids, the other rows by the numbers of the members; behind the last all is 0.
-#[derive(Clone, Copy)]
+// Givings stand by the places of the bids, the other rows by the numbers of the members; behind the last all is 0. No memory is
+// asked for: there are places for 96 bids and 64 members.
+#[derive(Clone, Copy, PartialEq, Eq, Debug)]
 pub struct Division {
     pub givings: [u64; 96],
     pub price: i64,
@@ -25,10 +28,7 @@ impl<'a> Round<'a> {
     pub fn divide(&self, offer: u64) -> Option<Division>
         ensures { MatchOption result (IsOrderly self.now → offer ≤ all_parts → ⊥) (λ d. IsOrderly self.now × (offer ≤ all_parts) × Divided (ruled self.now) offer d × Balanced (ruled self.now) offer d) }
     {
-        if !self.is_orderly() {
-            return None;
-        }
-        self.marked().divide(offer)
+        self.orderly()?.divide(offer)
     }
 }
 
@@ -37,16 +37,14 @@ impl<'a> OrderlyRound<'a> {
     pub fn divide(&self, offer: u64) -> Option<Division>
         ensures { MatchOption result (all_parts < offer) (λ d. (offer ≤ all_parts) × Divided (ruled_orderly self.now) offer d × Balanced (ruled_orderly self.now) offer d) }
     {
-        if offer > 1_000_000 {
-            return None;
-        }
+        let offer = within_whole(offer)?;
         let shortfalls = self.shortfalls();
-        let short = sum_of(&shortfalls, self.members);
+        let short = sum_of(&shortfalls);
         let givings = self.give(offer.saturating_sub(short));
-        let shortfall_parts = shares_of(offer.min(short), short, &shortfalls, self.members);
+        let shortfall_parts = shares_of(offer.min(short), short, &shortfalls);
         let allotments = self.allot(&givings, &shortfall_parts);
         let price = self.price(&givings);
-        let transfers = transfers(price, &allotments, self.members);
+        let transfers = transfers(price, &allotments);
         Some(Division {
             givings,
             price,

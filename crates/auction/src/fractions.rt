@@ -1,7 +1,7 @@
 // A member's fractions, as they are worked out from one another.
 
 // Those of the rounds of a package: of the first alone, or of both, with a residual of so many parts between them.
-#[derive(Clone, Copy)]
+#[derive(Clone, Copy, PartialEq, Eq, Debug)]
 pub enum PackageFractions {
     FirstOnly(u64),
     WithResidual {
@@ -12,14 +12,14 @@ pub enum PackageFractions {
 }
 
 // A package in a total: it weighs as much as its margin.
-#[derive(Clone, Copy)]
+#[derive(Clone, Copy, PartialEq, Eq, Debug)]
 pub struct Weighed {
     pub margin: u64,
     pub fraction: u64,
 }
 
 // The two parts of a contribution.
-#[derive(Clone, Copy)]
+#[derive(Clone, Copy, PartialEq, Eq, Debug)]
 pub struct ContributionParts {
     pub junior: u64,
     pub senior: u64,

@@ -17,3 +17,4 @@ mod rows;
 pub mod seconds;
 pub mod shortness;
 mod transfers;
+mod whole;

@@ -2,7 +2,7 @@
 use rules::bid::Bid;
 
 // The bids are lent, and the minimums stand by the members' numbers. Whether the round can be divided is found out when
-// it is asked.
+// it is asked. No memory is asked for: the minimums have places for 64 members.
 #[derive(Clone, Copy)]
 pub struct Round<'a> {
     pub bids: &'a [Bid],

@@ -6,35 +6,31 @@ ghost use Rattle.auction.specs.Rows.{Low, Row};
 ghost use Rattle.auction.specs.Ruled.{IsOrderly, ruled, ruled_orderly};
 ghost use Rattle.auction.specs.Shortness.{Countable, InMillionths, OfRounds, total_of, weighed_in};
 
-use crate::cuts::millionths;
 use crate::fractions::{ContributionParts, PackageFractions, Weighed};
 use crate::orderly::OrderlyRound;
 use crate::round::Round;
+use crate::whole::{ALL_PARTS, millionths, within_whole};
+use shares::rows::row_of;
 
 impl<'a> Round<'a> {
     // The fraction of each member; None where the round is not orderly.
     pub fn fractions(&self) -> Option<[u64; 64]>
         ensures { MatchOption result (IsOrderly self.now → ⊥) (λ row. IsOrderly self.now × Row self.now.members (round_fraction (ruled self.now)) row × Low self.now.members row) }
     {
-        if !self.is_orderly() {
-            return None;
-        }
-        Some(self.marked().fractions())
+        Some(self.orderly()?.fractions())
     }
 }
 
 impl<'a> OrderlyRound<'a> {
     // The fraction of each member.
     pub fn fractions(&self) -> [u64; 64]
-        ensures is { Row self.now.members (round_fraction (ruled_orderly self.now)) result }
-        ensures low { Low self.now.members result }
+        ensures is { Row self.now.round.members (round_fraction (ruled_orderly self.now)) result }
+        ensures low { Low self.now.round.members result }
     {
         let shortfalls = self.shortfalls();
-        let mut row = [0; 64];
-        for a in 0..self.members {
-            row[a] = fraction_of(shortfalls[a], self.minimums[a]);
-        }
-        row
+        row_of(self.round.members, |a| {
+            fraction_of(shortfalls[a], self.round.minimums[a])
+        })
     }
 }
 
@@ -44,10 +40,9 @@ fn fraction_of(shortfall: u64, minimum: u64) -> u64
     ensures is { result ≡ fraction_of shortfall minimum }
     ensures low { result ≤ all_parts }
 {
-    if minimum == 0 {
-        return 0;
-    }
-    (shortfall as u128 * 1_000_000 / minimum as u128) as u64
+    let parts = u128::from(shortfall) * u128::from(ALL_PARTS);
+    // It is at most the whole, so it fits.
+    parts.checked_div(u128::from(minimum)).unwrap_or(0) as u64
 }
 
 impl PackageFractions {
@@ -56,21 +51,16 @@ impl PackageFractions {
         ensures { MatchOption result (InMillionths self.now → ⊥) (λ f. InMillionths self.now × (f ≡ weighed_in self.now) × (f ≤ all_parts) × ((rounds : PackageRounds) (a : ℕ) → OfRounds self.now rounds a → f ≡ package_fraction rounds a)) }
     {
         match *self {
-            PackageFractions::FirstOnly(first) => {
-                if first > 1_000_000 {
-                    return None;
-                }
-                Some(first)
-            }
+            PackageFractions::FirstOnly(first) => within_whole(first),
             PackageFractions::WithResidual {
                 first,
                 residual,
                 second,
             } => {
-                if first > 1_000_000 || residual > 1_000_000 || second > 1_000_000 {
-                    return None;
-                }
-                Some(((1_000_000 - residual) * first + residual * second) / 1_000_000)
+                let first = within_whole(first)?;
+                let residual = within_whole(residual)?;
+                let second = within_whole(second)?;
+                Some(((ALL_PARTS - residual) * first + residual * second) / ALL_PARTS)
             }
         }
     }
@@ -83,29 +73,22 @@ pub fn total_fraction(packages: &[Weighed]) -> Option<u64>
     if packages.len() > 8 {
         return None;
     }
-    let mut margins: u128 = 0;
-    let mut weighed: u128 = 0;
+    let mut margins = 0;
+    let mut weighed = 0;
     for package in packages {
-        if package.fraction > 1_000_000 {
-            return None;
-        }
-        margins += package.margin as u128;
-        weighed += package.margin as u128 * package.fraction as u128;
+        let fraction = within_whole(package.fraction)?;
+        margins += u128::from(package.margin);
+        weighed += u128::from(package.margin) * u128::from(fraction);
     }
-    if margins == 0 {
-        return Some(0);
-    }
-    Some((weighed / margins) as u64)
+    // A mean of fractions is at most the whole, so it fits.
+    Some(weighed.checked_div(margins).unwrap_or(0) as u64)
 }
 
 // The junior part of a contribution, and the senior part, which is the rest; None where the fraction passes 1,000,000.
 pub fn split(contribution: u64, fraction: u64) -> Option<ContributionParts>
     ensures { MatchOption result (all_parts < fraction) (λ p. (fraction ≤ all_parts) × (p.junior ≡ junior_part contribution fraction) × (p.senior ≡ senior_part contribution fraction) × (p.junior + p.senior ≡ contribution)) }
 {
-    if fraction > 1_000_000 {
-        return None;
-    }
-    let junior = millionths(contribution, fraction);
+    let junior = millionths(contribution, within_whole(fraction)?);
     Some(ContributionParts {
         junior,
         senior: contribution - junior,

@@ -1,11 +1,13 @@
 -- The last first: charges come to the amount, or to all that is left; and one turn of the loop that makes them.
 use Rattle.std.proofs.Common.{◌≡◌, ℕ, zero, suc, ◌+◌, ◌-◌, ◌<◌, ◌≤◌, min, ◌≢◌, List, length, set, sym, refl, ap, ◌∙◌, inl, inr, arith, length-set, get_or-set_other, get_or-set_same}
 use Rattle.std.proofs.lemmas.Bool.{cases_eq}
-use Rattle.shares.specs.Sums.{total, at}
+use Rattle.shares.specs.Sums.{total}
 use Rattle.shares.proofs.Totals.{total_none, total_more, total_grows}
 use Rattle.tiers.specs.Charging.{Charged}
-use Rattle.tiers.proofs.Rising.{Lawful}
+use Rattle.tiers.specs.Laws.{Lawful}
 use Rattle.backward.specs.Charging.{behind, last_first}
+use Rattle.backward.specs.Accounts.{no_account, account_at, left_of, borne_of, Bears}
+use Rattle.backward.specs.declared.Account.{Account}
 
 one_more : (n : ℕ) (f : ℕ → ℕ) → total (suc n) f ≡ total n f + f n
 unfolding total
@@ -34,56 +36,45 @@ pub last_first_lawful : Lawful last_first
 last_first_lawful = record { within = λ left x a. omega arith; whole = λ left x. omega (arith, total_last_first 64 left x (omega arith)) }
 
 -- The accounts from i on are charged, those below are as they were, and `rest` is what is yet to be borne.
-pub record Turned (left₀ borne₀ : List ℕ) (x i : ℕ) (left borne : List ℕ) (rest : ℕ) : Type 0 where
-  pub left_wide : length left ≡ 64
-  pub borne_wide : length borne ≡ 64
-  pub rest_is : rest ≡ x - (total 64 (at left₀) - total i (at left₀))
+pub record Turned (old : List Account) (x i : ℕ) (accounts : List Account) (rest : ℕ) : Type 0 where
+  pub wide : length accounts ≡ 64
+  pub rest_is : rest ≡ x - (total 64 (left_of old) - total i (left_of old))
   pub done : (a : ℕ) → i ≤ a → a < 64 →
-      (at borne a ≡ at borne₀ a + last_first (at left₀) x a) × (at left a + last_first (at left₀) x a ≡ at left₀ a)
-  pub kept : (a : ℕ) → a < i → (at borne a ≡ at borne₀ a) × (at left a ≡ at left₀ a)
+      (borne_of accounts a ≡ borne_of old a + last_first (left_of old) x a) × (left_of accounts a + last_first (left_of old) x a ≡ left_of old a)
+  pub kept : (a : ℕ) → a < i → account_at accounts a ≡ account_at old a
 
-pub turned_none : (left borne : List ℕ) (x : ℕ) → length left ≡ 64 → length borne ≡ 64 → Turned left borne x 64 left borne x
-turned_none left borne x l b =
+pub turned_more : (old : List Account) (x i : ℕ) (accounts : List Account) (rest : ℕ) (account : Account) (back : ℕ) →
+    i < 64 → Turned old x (i + 1) accounts rest → Bears (account_at accounts i) rest account back →
+    Turned old x i (set accounts i account) back
+turned_more old x i accounts rest account back h t bore =
+    let here : account_at accounts i ≡ account_at old i = t.kept i (omega arith) in
+    let left : left_of accounts i ≡ left_of old i = ap (λ (y : Account). y.left) here in
+    let borne : borne_of accounts i ≡ borne_of old i = ap (λ (y : Account). y.borne) here in
+    let more = total_more i (left_of old) in
+    let grows = total_grows (i + 1) 64 (left_of old) (omega arith) in
+    let new : account_at (set accounts i account) i ≡ account = get_or-set_same accounts i account no_account (omega (arith, t.wide)) in
+    let new-left : left_of (set accounts i account) i ≡ account.left = ap (λ (y : Account). y.left) new in
+    let new-borne : borne_of (set accounts i account) i ≡ account.borne = ap (λ (y : Account). y.borne) new in
+    let other : (a : ℕ) → a ≢ i → account_at (set accounts i account) a ≡ account_at accounts a =
+    λ a ne. get_or-set_other accounts i a account no_account ne in
     record {
-      left_wide = l;
-      borne_wide = b;
-      rest_is = omega arith;
-      done = λ a h k. absurd (omega arith);
-      kept = λ a h. (refl, refl);
-    }
-
-pub turned_more : (left₀ borne₀ : List ℕ) (x i : ℕ) (left borne : List ℕ) (rest charge : ℕ) →
-    i < 64 → Turned left₀ borne₀ x (i + 1) left borne rest → charge ≡ min (at left i) rest →
-    Turned left₀ borne₀ x i (set left i (at left i - charge)) (set borne i (at borne i + charge)) (rest - charge)
-turned_more left₀ borne₀ x i left borne rest charge h t is =
-    let here = t.kept i (omega arith) in
-    let more = total_more i (at left₀) in
-    let grows = total_grows (i + 1) 64 (at left₀) (omega arith) in
-    let charged : charge ≡ last_first (at left₀) x i = omega (arith, t.rest_is, here.1) in
-    let new-left = get_or-set_same left i (at left i - charge) 0 (omega (arith, t.left_wide)) in
-    let new-borne = get_or-set_same borne i (at borne i + charge) 0 (omega (arith, t.borne_wide)) in
-    record {
-      left_wide = length-set _ _ _ ∙ t.left_wide;
-      borne_wide = length-set _ _ _ ∙ t.borne_wide;
-      rest_is = omega (arith, t.rest_is, here.1);
+      wide = length-set _ _ _ ∙ t.wide;
+      rest_is = omega (arith, t.rest_is, bore.answers);
       done = λ a l k. elim (cases_eq a i) [
-        | inl e ↦ rw e (omega (arith, here.0), omega (arith, here.1))
+        | inl e ↦ rw e (omega (arith, t.rest_is, bore.borne), omega (arith, t.rest_is, bore.left))
         | inr ne ↦ (
-          get_or-set_other borne i a (at borne i + charge) 0 ne ∙ (t.done a (omega arith) k).0,
-          omega (arith, get_or-set_other left i a (at left i - charge) 0 ne, (t.done a (omega arith) k).1),
+          ap (λ (y : Account). y.borne) (other a ne) ∙ (t.done a (omega arith) k).0,
+          omega (arith, ap (λ (y : Account). y.left) (other a ne), (t.done a (omega arith) k).1),
         )
       ];
-      kept = λ a l.
-          let ne : a ≢ i = omega arith in (
-            get_or-set_other borne i a (at borne i + charge) 0 ne ∙ (t.kept a (omega arith)).0,
-            get_or-set_other left i a (at left i - charge) 0 ne ∙ (t.kept a (omega arith)).1,
-          );
+      kept = λ a l. other a (λ e. omega arith) ∙ t.kept a (omega arith);
     }
 
 -- Once all had their turn, all are charged.
-pub turned_all : (left₀ borne₀ : List ℕ) (x i : ℕ) (left borne : List ℕ) (rest : ℕ) → i ≤ 0 → Turned left₀ borne₀ x i left borne rest →
-    Charged (at left₀) (at borne₀) (last_first (at left₀) x) (at left) (at borne) × (rest ≡ x - min x (total 64 (at left₀)))
-turned_all left₀ borne₀ x i left borne rest h t =
+pub turned_all : (old : List Account) (x i : ℕ) (accounts : List Account) (rest : ℕ) → i ≤ 0 → Turned old x i accounts rest →
+    Charged (left_of old) (borne_of old) (last_first (left_of old) x) (left_of accounts) (borne_of accounts)
+    × (rest ≡ x - min x (total 64 (left_of old)))
+turned_all old x i accounts rest h t =
     let end : i ≡ 0 = omega arith in
-    let none : total i (at left₀) ≡ 0 = ap (λ n. total n (at left₀)) end ∙ total_none (at left₀) in
+    let none : total i (left_of old) ≡ 0 = ap (λ n. total n (left_of old)) end ∙ total_none (left_of old) in
     (λ a l. t.done a (omega arith) l, omega (arith, t.rest_is))

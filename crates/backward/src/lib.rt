@@ -2,68 +2,87 @@
 #![tactic(auto)]
 
 ghost use Rattle.std.specs.Prelude.{◌≡◌, ℕ, ◌+◌, ◌^◌, ◌<◌, length};
-ghost use Rattle.backward.specs.Charging.{last_first};
 ghost use Rattle.shares.specs.Sums.{at};
-ghost use Rattle.tiers.specs.Charging.{ChargedBy};
-ghost use Rattle.tiers.specs.Piles.{Bears};
-ghost use Rattle.tiers.specs.Piles.Pile.{one};
 
-use tiers::tier::{MOST_TOLD, Tier, nothing};
+use tiers::tier::{Balance, MOST_TOLD, Tier};
+
+// What an account can still bear and what it has borne, which fit 64 bits together.
+#[derive(Clone, Copy, PartialEq, Eq, Debug)]
+struct Account {
+    left: u64,
+    borne: u64,
+    ghost fits: { left + borne < 2 ^ 64 },
+}
+
+impl Account {
+    ghost use Rattle.backward.specs.Accounts.{Bears};
+
+    // Bears what it can of an amount, and answers the rest.
+    fn bear(&mut self, amount: u64) -> u64
+        ensures { Bears self.old amount self.new result }
+    {
+        let charge = self.left.min(amount);
+        self.left -= charge;
+        self.borne += charge;
+        amount - charge
+    }
+}
 
 #[derive(Drop)]
 pub struct Backward {
-    left: [u64; 64],
-    borne: [u64; 64],
-    ghost wide: { (length left ≡ 64) × (length borne ≡ 64) },
-    ghost fits: { (a : ℕ) → a < 64 → at left a + at borne a < 2 ^ 64 },
+    accounts: [Account; 64],
+    ghost wide: { length accounts ≡ 64 },
 }
 
 impl Backward {
+    ghost use Rattle.backward.specs.Accounts.{left_of, borne_of};
+
     // A tier whose accounts can bear these amounts, with nothing borne.
     pub fn new(left: [u64; 64]) -> Backward
-        ensures left { result.left ≡ left }
-        ensures borne { (a : ℕ) → a < 64 → at result.borne a ≡ 0 }
+        ensures left { (a : ℕ) → a < 64 → left_of result.accounts a ≡ at left a }
+        ensures borne { (a : ℕ) → a < 64 → borne_of result.accounts a ≡ 0 }
     {
-        let borne = nothing();
-        Backward { left, borne }
+        Backward {
+            accounts: left.map(|left| Account { left, borne: 0 }),
+        }
     }
 }
 
 impl Tier for Backward {
-    ghost meaning = { λ s. one (at s.left) (at s.borne) };
+    ghost use Rattle.backward.specs.Accounts.{tier_of};
+    ghost use Rattle.backward.specs.Charging.{last_first};
+    ghost use Rattle.tiers.specs.Charging.{ChargedBy};
+    ghost use Rattle.tiers.specs.Piles.{Bears};
 
-    fn account(&self, number: u8) -> Option<(u64, u64)> {
-        if number >= 64 {
-            return None;
-        }
-        let a = number as usize;
-        Some((self.left[a].min(MOST_TOLD), self.borne[a].min(MOST_TOLD)))
+    ghost meaning = { λ s. tier_of s.accounts };
+
+    fn account(&self, number: u8) -> Option<Balance> {
+        let account = self.accounts.get(usize::from(number))?;
+        Some(Balance {
+            left: account.left.min(MOST_TOLD),
+            borne: account.borne.min(MOST_TOLD),
+        })
     }
 
     fn whole(&self) -> u64 {
-        let mut sum = 0u64;
-        for i in 0..64 {
-            sum = sum.saturating_add(self.left[i]);
+        let mut all = 0u64;
+        for account in &self.accounts {
+            all = all.saturating_add(account.left);
         }
-        sum.min(MOST_TOLD)
+        all.min(MOST_TOLD)
     }
 
     // Besides what every tier does: the last account bears first.
     fn bear(&mut self, amount: u64) -> u64
-        ensures bears { Bears (one (at self.old.left) (at self.old.borne)) amount (one (at self.new.left) (at self.new.borne)) result }
-        ensures charges { ChargedBy last_first (one (at self.old.left) (at self.old.borne)) amount (one (at self.new.left) (at self.new.borne)) }
+        ensures bears { Bears (tier_of self.old.accounts) amount (tier_of self.new.accounts) result }
+        ensures charges { ChargedBy last_first (tier_of self.old.accounts) amount (tier_of self.new.accounts) }
     {
-        let mut left = self.left;
-        let mut borne = self.borne;
         let mut rest = amount;
+        let accounts = &mut self.accounts;
+        // The proof does not close over `iter_mut().rev()`.
         for i in (0..64).rev() {
-            let charge = left[i].min(rest);
-            left[i] -= charge;
-            borne[i] += charge;
-            rest -= charge;
+            rest = accounts[i].bear(rest);
         }
-        self.left = left;
-        self.borne = borne;
         rest
     }
 }

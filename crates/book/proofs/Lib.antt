@@ -1,9 +1,7 @@
+pub mod Alone
 pub mod Opened
-pub mod Joined
-pub mod Seconded
-pub mod Firsts
-pub mod Cutting
 pub mod Sizes
-pub mod Shown
 pub mod Transferred
+pub mod Cutting
+pub mod Joined
 pub mod Linked

@@ -1,5 +1,5 @@
 -- The rounds of a package are those of the state that it is a part of, if its first round is.
-use Rattle.std.proofs.Common.{◌≡◌, ℕ, ℤ, ◌+ℤ◌, Some, None, Option, refl, ap, ◌∙◌}
+use Rattle.std.proofs.Common.{◌≡◌, ℕ, ℤ, ◌+ℤ◌, is_some, Some, None, Option, refl, ap, ◌∙◌}
 use Rattle.std.specs.Option.{option_map}
 use Rattle.rules.specs.Residuals.{second_round}
 use Rattle.rules.specs.Rounds.{Round}
@@ -13,18 +13,7 @@ use Rattle.book.specs.Brought.{of_held, over_rounds, rounds_held, rounds_with}
 use Rattle.book.specs.Cuts.{Cut, CutSo, offer_after}
 use Rattle.book.specs.HeldPackages.{first_round_of, held_by, package_of}
 use Rattle.book.specs.HeldRounds.{bidding_of, round_held}
-use Rattle.book.proofs.Cutting.{cut_out}
-
--- ---- the second round is the one of the rules
-
-pub after : (first second : Held) (parts : ℕ) → Cut first second parts → second.round ≡ second_round first.round parts second.round.bids
-after first second parts h = λ i. record {
-  members = h.members i;
-  minimum = λ a. h.minimum a i;
-  bids = second.round.bids;
-  reference = h.reference i;
-  margin = h.margin i;
-}
+use Rattle.book.proofs.Cutting.{after}
 
 -- ---- what is held
 
@@ -36,14 +25,14 @@ module _ (s : State) (p : Package) (is : first_round_of p ≡ first_in s (packag
   first_is : round_held p.first ≡ first_held s (package_of p)
   first_is =
       let offer = p.offered ∙ offer_is p.residual (round_held p.second) in
-      λ i. record { round = is i; offer = offer i; struck = p.first.struck }
+      λ i. record { round = is i; offer = offer i; struck = is_some p.first.division }
 
   second_is : (parts : ℕ) → Cut (round_held p.first) (round_held p.second) parts →
       round_held p.second ≡ second_held s (package_of p) (record { parts = parts; second = bidding_of (round_held p.second) })
   second_is parts h =
       let round = after (round_held p.first) (round_held p.second) parts h ∙ ap (λ (r : Round). second_round r parts (round_held p.second).round.bids) is in
       let whole = p.whole in
-      λ i. record { round = round i; offer = whole i; struck = p.second.struck }
+      λ i. record { round = round i; offer = whole i; struck = is_some p.second.division }
 
   seconds_is : (residual : Option ℕ) → CutSo residual (round_held p.first) (round_held p.second) →
       option_map (λ _. round_held p.second) residual
@@ -53,7 +42,7 @@ module _ (s : State) (p : Package) (is : first_round_of p ≡ first_in s (packag
 
   pub held_is : (n : RoundNumber) → held_by p n ≡ held_of s (package_of p) n
   held_is First = ap (λ (x : Held). Some x) first_is
-  held_is Second = seconds_is p.residual (cut_out p.residual (round_held p.first) (round_held p.second) p.cut)
+  held_is Second = seconds_is p.residual p.cut
 
   -- ---- what it comes to
 
@@ -76,4 +65,4 @@ module _ (s : State) (p : Package) (is : first_round_of p ≡ first_in s (packag
       ∙ ap (λ (x : Held). rounds_with (first_in s (package_of p)) (Some parts) x.round) (second_is parts h)
 
   pub rounds_are : rounds_held p ≡ rounds_of s (package_of p)
-  rounds_are = rounds_by p.residual (cut_out p.residual (round_held p.first) (round_held p.second) p.cut)
+  rounds_are = rounds_by p.residual p.cut

@@ -1,5 +1,5 @@
 -- What a residual makes of the rounds of a package.
-use Rattle.std.specs.Prelude.{◌≡◌, ℕ, ◌≤◌, Bool, true, not, ◌&&◌, is_some, Some, None, Option, nat_le}
+use Rattle.std.specs.Prelude.{◌≡◌, ℕ, ◌≤◌, Bool, true, not, ◌&&◌, is_some, Some, None, Option, nat_le, IfSome}
 use Rattle.rules.specs.Minimums.{all_parts}
 use Rattle.rules.specs.Residuals.{cut_allotment, cut_margin, cut_offer, cut_reference, second_minimum}
 use Rattle.calls.specs.Packages.{Package}
@@ -22,8 +22,7 @@ pub record Cut (first second : Held) (parts : ℕ) : Type 0 where
 
 -- so it is where there is a residual
 abbrev pub CutSo : (residual : Option ℕ) → (first second : Held) → Type 0
-CutSo None first second = Unit {0}
-CutSo (Some parts) first second = Cut first second parts
+CutSo residual first second = IfSome residual (Cut first second)
 
 -- so many parts can be cut off a package
 abbrev pub takes_cut : (parts : ℕ) → Package → Bool

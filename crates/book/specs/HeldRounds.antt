@@ -1,21 +1,21 @@
 -- What a round of a package stands for.
-use Rattle.std.specs.Prelude.{ℕ, Bool, true, false, not, ◌&&◌, List, length, nat_lt}
+use Rattle.std.specs.Prelude.{ℕ, Bool, true, false, not, ◌&&◌, List, length, is_some, nat_lt}
 use Rattle.ranked.specs.Order.{arrive}
 use Rattle.ranked.specs.Table.{listed}
 use Rattle.rules.specs.declared.bid.Bid.{Bid}
 use Rattle.rules.specs.Bids.{by_price}
 use Rattle.rules.specs.Minimums.{all_parts}
 use Rattle.rules.specs.Rounds.{Round}
-use Rattle.auction.specs.Orderly.{round_of}
 use Rattle.calls.specs.Packages.{Bidding}
 use Rattle.calls.specs.Held.{Held}
 use Rattle.book.specs.declared.round.BookRound.{BookRound}
+use Rattle.book.specs.Terms.{round_with, terms_held}
 
 abbrev pub round_held : BookRound → Held
 round_held r = record {
-  round = round_of (listed r.bids) r.minimums r.members r.reference r.margin;
+  round = round_with (terms_held r.terms) (listed r.bids);
   offer = r.offer;
-  struck = r.struck;
+  struck = is_some r.division;
 }
 
 -- a round that offers the whole and is not struck

@@ -2,7 +2,9 @@
 // of the package.
 #![tactic(auto)]
 
+pub mod errors;
 pub mod packages;
 mod round;
+mod terms;
 #[cfg(test)]
 mod tests;

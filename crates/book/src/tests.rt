@@ -1,4 +1,5 @@
 // The worked default and the worked residual, as a package answers them.
+use crate::errors::{AlreadyStruck, CutError};
 use crate::packages::Package;
 use calls::round_number::RoundNumber;
 use rules::bid::Bid;
@@ -16,26 +17,26 @@ fn member(bytes: [u8; 8], contribution: u64) -> Member {
 }
 
 // A package of the worked roll, opened with the margin 1,000 and the reference price -5,000.
-fn opened(rt: &impl Abort, heap: Global) -> Result<Package, Fail> {
+fn opened(heap: Global) -> Result<Package, Fail> {
     let members = [
         member(*b"ASHGROVE", 600),
         member(*b"BIRCHEND", 300),
         member(*b"COLDWELL", 100),
     ];
     let mut package = Package::new(heap)?;
-    assert!(rt; package.open(&members, 1_250, 1_000, -5_000, 0));
+    package.open(&members, 1_250, 1_000, -5_000, 0)?;
     Ok(package)
 }
 
-fn bids(rt: &impl Abort, package: &mut Package, bids: &[(u8, u32, i64)]) {
+fn bids(package: &mut Package, bids: &[(u8, u32, i64)]) -> Result<(), Fail> {
     for &(member, size, price) in bids {
-        let bid = Bid {
+        package.bid(Bid {
             member,
             size,
             price,
-        };
-        assert!(rt; package.bid(bid));
+        })?;
     }
+    Ok(())
 }
 
 // What a member gets and pays in a round, and its fraction there.
@@ -55,14 +56,10 @@ fn has(
 
 #[test]
 fn worked_default(rt: HostRuntime) -> Result<(), Fail> {
-    let mut package = opened(&rt, rt.alloc())?;
-    bids(
-        &rt,
-        &mut package,
-        &[(1, 375_000, -4_500), (0, 750_000, -4_000)],
-    );
-    assert!(rt; package.strike());
-    assert!(rt; !package.strike());
+    let mut package = opened(rt.alloc())?;
+    bids(&mut package, &[(1, 375_000, -4_500), (0, 750_000, -4_000)])?;
+    package.strike()?;
+    assert_eq!(rt; package.strike(), Err(AlreadyStruck));
     let prices = package.prices(RoundNumber::First).ok_or("no prices")?;
     assert_eq!(rt; prices.mark, -4_500);
     assert_eq!(rt; prices.price, -4_500);
@@ -81,24 +78,23 @@ fn worked_default(rt: HostRuntime) -> Result<(), Fail> {
 
 #[test]
 fn worked_residual(rt: HostRuntime) -> Result<(), Fail> {
-    let mut package = opened(&rt, rt.alloc())?;
+    let mut package = opened(rt.alloc())?;
     bids(
-        &rt,
         &mut package,
         &[
             (0, 750_000, -4_000),
             (1, 375_000, -4_500),
             (2, 300_000, -3_000),
         ],
-    );
-    assert!(rt; !package.cut(400_000));
-    assert!(rt; package.strike());
-    assert!(rt; package.cut(400_000));
-    assert!(rt; !package.cut(400_000));
+    )?;
+    assert_eq!(rt; package.cut(400_000), Err(CutError::NotStruck));
+    package.strike()?;
+    package.cut(400_000)?;
+    assert_eq!(rt; package.cut(400_000), Err(CutError::CutAlready));
     for (member, minimum) in [833_333, 416_667, 0].into_iter().enumerate() {
         assert_eq!(rt; package.minimum(RoundNumber::Second, member), Some(minimum));
     }
-    assert!(rt; package.strike());
+    package.strike()?;
     let prices = package.prices(RoundNumber::Second).ok_or("no prices")?;
     assert_eq!(rt; prices.price, -2_000);
     for (member, fraction) in [400_000, 400_000, 0].into_iter().enumerate() {

@@ -1,43 +1,12 @@
 -- The field at the front of some bytes.
-use Rattle.std.proofs.Common.{◌≡◌, ℕ, zero, suc, ◌+◌, ◌-◌, ◌*◌, ◌/◌, ◌%◌, ◌^◌, ◌<◌, ◌≤◌, Bool, true, false, cond, leb, List, [], ◌∷◌, ◌++◌, length, get_or, take, drop, Some, None, sym, refl, ap, ◌∙◌, arith}
-use native.Mathlib.Nat.{sub-zero}
+use Rattle.std.proofs.Common.{◌≡◌, ℕ, zero, suc, ◌+◌, ◌/◌, ◌%◌, ◌^◌, ◌<◌, ◌≤◌, Bool, true, false, cond, leb, List, [], ◌∷◌, ◌++◌, length, take, Some, None, refl, ap, arith}
 use lib.Seq.{take-append_seam}
-use Rattle.std.proofs.lemmas.List.{take_rest, length-take, length-take-le, length-append}
+use Rattle.std.proofs.lemmas.List.{length-take, length-append}
 use Rattle.std.proofs.lemmas.Bool.{le-leb, lt-leb}
 use Rattle.callfile.specs.Numbers.{number_of}
 use Rattle.callfile.specs.Fields.{Tagged, tagged, front, laid}
 use Rattle.callfile.specs.Laws.{FieldFound, FieldCut}
-use Rattle.callfile.proofs.Bytes.{number_two, number_in}
-
--- the length that a field at the front of these bytes declares
-abbrev pub declared : List ℕ → ℕ
-declared s = get_or s 1 0 * 256 + get_or s 2 0
-
-front_at : (s : List ℕ) → 3 + declared s ≤ length s → front s ≡ Some (tagged (get_or s 0 0) (take (declared s) (drop 3 s)))
-front_at [] h = absurd (omega arith)
-front_at (t ∷ []) h = absurd (omega arith)
-front_at (t ∷ a ∷ []) h = absurd (omega arith)
-front_at (t ∷ a ∷ b ∷ s) h =
-    let e = number_two a b in
-    let k : leb (a * 256 + b) (length s) ≡ true = le-leb _ _ (omega arith) in
-    rw (e, k)
-
--- the value of a field as the code cuts it
-value_is : (s : List ℕ) (n : ℕ) → take (n - 0) (take (length s - 3) (drop 3 s)) ≡ take n (drop 3 s)
-value_is s n = rw (take_rest s 3, sub-zero n)
-
-value_length : (s : List ℕ) (n : ℕ) → 3 + n ≤ length s → length (take n (drop 3 s)) ≡ n
-value_length [] n h = absurd (omega arith)
-value_length (t ∷ []) n h = absurd (omega arith)
-value_length (t ∷ a ∷ []) n h = absurd (omega arith)
-value_length (t ∷ a ∷ b ∷ s) n h = length-take-le n s (omega arith)
-
-pub front_is : (s v : List ℕ) → 3 + declared s ≤ length s → v ≡ take (declared s - 0) (take (length s - 3) (drop 3 s)) →
-    (front s ≡ Some (tagged (get_or s 0 0) v)) × (3 + declared s ≡ length (laid (tagged (get_or s 0 0) v)))
-front_is s v h e =
-    let w = e ∙ value_is s (declared s) in
-    let l : length v ≡ declared s = ap length w ∙ value_length s (declared s) h in
-    (front_at s h ∙ ap (λ x. Some (tagged (get_or s 0 0) x)) (sym w), omega arith)
+use Rattle.callfile.proofs.Bytes.{number_in}
 
 -- two length bytes
 length_bytes : (n : ℕ) → n < 2 ^ 16 → number_of (n / 256 % 256 ∷ n % 256 ∷ []) ≡ n

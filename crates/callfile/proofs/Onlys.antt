@@ -8,7 +8,6 @@ use Rattle.std.proofs.lemmas.Bool.{leb-true, eqb-true}
 use Rattle.std.specs.Int.Digits.{AllBelowBase}
 use Rattle.rules.specs.declared.refusal.Stop.{Stop}
 use Rattle.rules.specs.declared.refusal.Stop.TheVariants.{WrongLength}
-use Rattle.rules.specs.Names.{spelling}
 use Rattle.callfile.specs.declared.call.Call.{Call}
 use Rattle.callfile.specs.declared.call.Call.TheVariants.{Enrol, CloseRoll, Multiplier}
 use Rattle.callfile.specs.Numbers.{number_of, in_bytes}
@@ -16,7 +15,7 @@ use Rattle.callfile.specs.Fields.{Tagged, tagged, laid, front}
 use Rattle.callfile.specs.Calls.{said, encode, Fits, sized, call_of}
 use Rattle.callfile.specs.Places.{heard}
 use Rattle.callfile.specs.Laws.{ReadsOnly}
-use Rattle.callfile.proofs.Bytes.{in_number, spelling_in}
+use Rattle.callfile.proofs.Bytes.{in_number}
 use Rattle.callfile.proofs.Steps.{measured_is}
 
 bytes_only : (k : ℕ) (bs : List ℕ) → length bs ≡ k → AllBelowBase 256 bs → in_bytes k (number_of bs) ≡ bs
@@ -31,18 +30,16 @@ number_below k bs h u = subst (λ n. number_of bs < 256 ^ n) h (number_lt 256 bs
 Says : Call → ℕ → List ℕ → Type 0
 Says call tag value = (said call ≡ tagged tag value) × Fits call
 
-enrol_says : (v : List ℕ) → AllBelowBase 256 v → length v ≡ 16 → Says (Enrol (number_of (take 8 v)) (number_of (drop 8 v))) 1 v
+enrol_says : (v : List ℕ) → AllBelowBase 256 v → length v ≡ 16 → Says (Enrol (record { bytes = take 8 v }) (number_of (drop 8 v))) 1 v
 unfolding Says
 enrol_says v u h =
     let m : length (take 8 v) ≡ 8 = length-take-le 8 v (omega arith) in
     let n : length (drop 8 v) ≡ 8 = length-drop 8 v ∙ omega arith in
     let front_Bytes = All-take (λ d. d < 256) 8 v u in
     let back-bytes = All-drop (λ d. d < 256) 8 v u in
-    let a : spelling (number_of (take 8 v)) ≡ take 8 v = spelling_in (number_of (take 8 v)) ∙ bytes_only 8 (take 8 v) m front_Bytes in
     let b = bytes_only 8 (drop 8 v) n back-bytes in
-    let both : spelling (number_of (take 8 v)) ++ in_bytes 8 (number_of (drop 8 v)) ≡ v =
-    ap (λ x. x ++ in_bytes 8 (number_of (drop 8 v))) a ∙ (ap (λ x. take 8 v ++ x) b ∙ take-append-drop 8 v) in
-    (ap (tagged 1) both, (number_below 8 (take 8 v) m front_Bytes, number_below 8 (drop 8 v) n back-bytes))
+    let both : take 8 v ++ in_bytes 8 (number_of (drop 8 v)) ≡ v = ap (λ x. take 8 v ++ x) b ∙ take-append-drop 8 v in
+    (ap (tagged 1) both, ((m, front_Bytes), number_below 8 (drop 8 v) n back-bytes))
 
 close_roll_says : (v : List ℕ) → length v ≡ 0 → Says CloseRoll 2 v
 unfolding Says

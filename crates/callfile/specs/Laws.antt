@@ -6,7 +6,7 @@ use Rattle.rules.specs.declared.refusal.Stop.TheVariants.{CutShort, UnknownTag, 
 use Rattle.rules.specs.declared.refusal.Fault.{Fault}
 use Rattle.callfile.specs.declared.call.Call.{Call}
 use Rattle.callfile.specs.Fields.{Tagged, tagged, front, laid}
-use Rattle.callfile.specs.Calls.{said, encode, Fits}
+use Rattle.callfile.specs.Calls.{said, encode, IsNamed, Fits}
 use Rattle.callfile.specs.Places.{first_call, decode, moved}
 use Rattle.callfile.specs.Readings.{ended, stopped_by, call_then, reading_from, reading}
 
@@ -45,7 +45,7 @@ TellsUnknown =
 -- a whole field with a call's tag has a wrong length where the call's value has another
 abbrev pub TellsLength : Type 0
 TellsLength =
-    (call : Call) (value rest : List ℕ) → Short (tagged (said call).tag value) → (length value ≢ length (said call).value) →
+    (call : Call) (value rest : List ℕ) → IsNamed call → Short (tagged (said call).tag value) → (length value ≢ length (said call).value) →
     first_call (laid (tagged (said call).tag value) ++ rest) ≡ Err WrongLength
 
 -- how a reader moves from a place

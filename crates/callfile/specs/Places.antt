@@ -1,9 +1,10 @@
 -- What stands at a place of a file, and where a reader goes from there.
-use Rattle.std.specs.Prelude.{ℕ, ◌+◌, cond, List, length, drop, Some, None, Ok, Err, Option, Result, nat_lt}
+use Rattle.std.specs.Prelude.{◌≡◌, ℕ, ◌+◌, cond, List, length, drop, Some, None, Ok, Err, Option, Result, nat_lt}
 use Rattle.rules.specs.declared.refusal.Stop.{Stop}
 use Rattle.rules.specs.declared.refusal.Stop.TheVariants.{CutShort}
 use Rattle.rules.specs.declared.refusal.Fault.{Fault}
 use Rattle.callfile.specs.declared.call.Call.{Call}
+use Rattle.callfile.specs.declared.reader.Reader.{Reader}
 use Rattle.callfile.specs.Fields.{Tagged, front, laid}
 use Rattle.callfile.specs.Calls.{call_of}
 
@@ -36,3 +37,9 @@ past place (Err stop) = place
 -- where it stands then: behind the call's field, or where it was
 unfoldable pub moved : List ℕ → ℕ → ℕ
 moved file place = past place (first_call (drop place file))
+
+-- a reader answers the call, or the fault, at its place, and moves on in the same file
+pub record Read (before : Reader) (item : Option (Result Call Fault)) (after : Reader) : Type 0 where
+  pub file : after.file.now ≡ before.file.now
+  pub answer : item ≡ decode before.file.now before.place
+  pub place : after.place ≡ moved before.file.now before.place

@@ -1,6 +1,6 @@
 // A reader of the calls of a file.
 ghost use Rattle.std.specs.Prelude.{◌≡◌};
-ghost use Rattle.callfile.specs.Places.{first_call, decode, moved};
+ghost use Rattle.callfile.specs.Places.{Read, first_call};
 
 use crate::call::Call;
 use crate::field::Field;
@@ -12,7 +12,7 @@ fn first_call(bytes: &[u8]) -> Result<(Call, usize), Stop>
 {
     let field = Field::front(bytes).ok_or(Stop::CutShort)?;
     let call = Call::of(field.tag, field.value)?;
-    Ok((call, field.size))
+    Ok((call, field.size()))
 }
 
 // Its file is lent, and is read in place.
@@ -37,13 +37,16 @@ impl<'a> Reader<'a> {
     {
         self.place
     }
+}
+
+impl Iterator for Reader<'_> {
+    type Item = Result<Call, Fault>;
+
+    // Behind a fault the same fault comes again.
+    ghost next_gives = { Read };
 
     // The call at the reader's place; none at the end of the file. At a fault the reader stays where it is.
-    pub fn next(&mut self) -> Option<Result<Call, Fault>>
-        ensures file { self.new.file.now ≡ self.old.file.now }
-        ensures answer { result ≡ decode self.old.file.now self.old.place }
-        ensures place { self.new.place ≡ moved self.old.file.now self.old.place }
-    {
+    fn next(&mut self) -> Option<Result<Call, Fault>> {
         let place = self.place;
         if place >= self.file.len() {
             return None;

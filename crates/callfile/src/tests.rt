@@ -1,6 +1,7 @@
 // Small files, read field by field.
 use crate::call::Call;
 use crate::reader::Reader;
+use rules::name::Name;
 use rules::refusal::{Fault, Stop};
 use std::process::Abort;
 
@@ -8,7 +9,9 @@ use std::process::Abort;
 fn reads_to_the_end(rt: HostRuntime) {
     let file = b"\x01\0\x10MEMBER07\0\0\0\0\0\0\x01\x02\x02\0\0\x08\0\x04\0\0\x03\xe8";
     let mut reader = Reader::new(file);
-    let name = u64::from_be_bytes(*b"MEMBER07");
+    let name = Name {
+        bytes: *b"MEMBER07",
+    };
     let enrol = Call::Enrol {
         name,
         contribution: 258,

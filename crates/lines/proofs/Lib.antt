@@ -3,4 +3,3 @@ pub mod Sizes
 pub mod Gathering
 pub mod Slotting
 pub mod Stepping
-pub mod Spelled

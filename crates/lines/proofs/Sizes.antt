@@ -9,7 +9,6 @@ use Rattle.rules.specs.declared.refusal.Refusal.{Refusal}
 use Rattle.rules.specs.declared.refusal.Refusal.TheVariants.{OtherStage, NoPackage, NoMember, OutsideLimits, NameByte, NameEnrolled, NoRoom, NobodyToServe, SizesPass, NoOpenRound, NotReadyToSettle, ShortMemory}
 use Rattle.rules.specs.declared.refusal.Stop.{Stop}
 use Rattle.rules.specs.declared.refusal.Stop.TheVariants.{CutShort, UnknownTag, WrongLength}
-use Rattle.rules.specs.Names.{spelling}
 use Rattle.rules.specs.Refusals.{stop_at, number}
 use Rattle.rules.specs.Refusals.Cause.{refused}
 use Rattle.calls.specs.declared.round_number.RoundNumber.{RoundNumber}
@@ -89,7 +88,7 @@ pub line_fits : (l : Line) → Modest l → length (bytes_of l) ≤ 32
 line_fits (Refused count refusal) m = cause_fits (codes "REFUSED") count _ refl m (refusal_small refusal)
 line_fits (Stopped fault) m = cause_fits (codes "STOPPED") fault.place _ refl m (stop_small fault.stop fault.place)
 line_fits (Round k n price) m = round_fits k n price m.0 m.1
-line_fits (Member name parts transfer) m = member_fits (spelling name) parts transfer refl m.0 m.1
+line_fits (Member name parts transfer) m = member_fits name.bytes parts transfer m.0 m.1 m.2
 line_fits (Charge account charge) m = charge_fits (codes "CHARGE") account charge refl m.0 m.1
 line_fits (Unborne amount) m = sole_fits (codes "UNBORNE") amount refl m
 line_fits (Surplus amount) m = sole_fits (codes "SURPLUS") amount refl m

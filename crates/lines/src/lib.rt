@@ -3,7 +3,6 @@
 
 pub mod laws;
 pub mod line;
-pub mod names;
 pub mod put;
 #[cfg(test)]
 mod tests;

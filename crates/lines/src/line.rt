@@ -1,10 +1,10 @@
 // What a line tells of.
 use calls::round_number::RoundNumber;
+use rules::name::Name;
 use rules::refusal::{Fault, Refusal};
 
-// A refused call by its count, or where the reading stopped; a struck round, and a member in it by the number that its
-// name spells; what a settlement charged an account, what nobody bore, and what was over.
-#[derive(Clone, Copy)]
+// A refused call by its count, or where the reading stopped; a struck round, and a member in it by its name; what a settlement charged an account, what nobody bore, and what was over.
+#[derive(Clone, Copy, PartialEq, Eq, Debug)]
 pub enum Line {
     Refused {
         count: u64,
@@ -17,7 +17,7 @@ pub enum Line {
         price: i64,
     },
     Member {
-        name: u64,
+        name: Name,
         parts: u64,
         transfer: i64,
     },

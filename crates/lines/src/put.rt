@@ -1,15 +1,16 @@
 // The bytes of a line, put at the front of lent memory.
-// Each function answers where its text ends. Where there is no room it answers None, and a part may stand there.
+// Each function answers where its text ends. Where there is no room it answers None, and a part may stand there. No Display:
+// a `write!` may fail where there is room, and a line that has room has to be told. Memory and place stand side by side: a
+// struct of them would hold a `&mut`, and its clauses would be longer.
 ghost use Rattle.std.specs.Prelude.{codes, decimal};
 ghost use Rattle.lines.specs.Lines.{pair_line, sole_line, round_line, member_line, round_digit, spaced};
 ghost use Rattle.lines.specs.Told.{bytes_of};
-ghost use Rattle.std.specs.Fmt.{signed_decimal};
 ghost use Rattle.text.specs.Writing.{Tried, Put};
 
 use crate::line::Line;
 use calls::round_number::RoundNumber;
-use rules::name::Name;
-use text::{put_byte, put_decimal, put_signed, put_text};
+use itoa::Integer;
+use text::{put_byte, put_text};
 
 // Puts a line at the front of `memory`, and answers its length.
 pub fn put_line(memory: &mut [u8], line: Line) -> Option<usize>
@@ -20,13 +21,13 @@ pub fn put_line(memory: &mut [u8], line: Line) -> Option<usize>
             memory,
             b"REFUSED",
             count,
-            refusal.number() as u64,
+            u64::from(refusal.number()),
         ),
         Line::Stopped(fault) => put_pair(
             memory,
             b"STOPPED",
             fault.place as u64,
-            fault.number() as u64,
+            u64::from(fault.number()),
         ),
         Line::Round {
             package,
@@ -37,8 +38,8 @@ pub fn put_line(memory: &mut [u8], line: Line) -> Option<usize>
             name,
             parts,
             transfer,
-        } => put_member(memory, &Name::spelled(name).bytes, parts, transfer),
-        Line::Charge { account, charge } => put_pair(memory, b"CHARGE", account as u64, charge),
+        } => put_member(memory, &name.bytes, parts, transfer),
+        Line::Charge { account, charge } => put_pair(memory, b"CHARGE", u64::from(account), charge),
         Line::Unborne(amount) => put_sole(memory, b"UNBORNE", amount),
         Line::Surplus(amount) => put_sole(memory, b"SURPLUS", amount),
     }
@@ -68,9 +69,9 @@ fn put_round(memory: &mut [u8], number: u8, round: RoundNumber, price: i64) -> O
     ensures { Tried memory.old 0 (round_line number round price) memory.new result }
 {
     let at = put_text(memory, 0, b"ROUND")?;
-    let at = put_number(memory, at, number as u64)?;
+    let at = put_number(memory, at, number)?;
     let at = put_turn(memory, at, round)?;
-    let at = put_amount(memory, at, price)?;
+    let at = put_number(memory, at, price)?;
     put_end(memory, at)
 }
 
@@ -80,33 +81,25 @@ fn put_member(memory: &mut [u8], name: &[u8], parts: u64, transfer: i64) -> Opti
 {
     let at = put_text(memory, 0, name)?;
     let at = put_number(memory, at, parts)?;
-    let at = put_amount(memory, at, transfer)?;
+    let at = put_number(memory, at, transfer)?;
     put_end(memory, at)
 }
 
 // A space and a number.
-fn put_number(memory: &mut [u8], at: usize, number: u64) -> Option<usize>
-    ensures { Tried memory.old at (spaced (decimal number)) memory.new result }
+fn put_number<I: Integer>(memory: &mut [u8], at: usize, number: I) -> Option<usize>
+    ensures { Tried memory.old at (spaced (I.text number)) memory.new result }
 {
     let at = put_byte(memory, at, b' ')?;
-    put_decimal(memory, at, number)
+    text::put_number(memory, at, number)
 }
 
-// A space and a number that may be below 0.
-fn put_amount(memory: &mut [u8], at: usize, amount: i64) -> Option<usize>
-    ensures { Tried memory.old at (spaced (signed_decimal amount)) memory.new result }
-{
-    let at = put_byte(memory, at, b' ')?;
-    put_signed(memory, at, amount)
-}
-
-// A space, and a round by its number from 1.
+// A space, and a round by its number from 1. No `From`: only here is a round a number.
 fn put_turn(memory: &mut [u8], at: usize, round: RoundNumber) -> Option<usize>
     ensures { Tried memory.old at (spaced (decimal (round_digit round))) memory.new result }
 {
     match round {
-        RoundNumber::First => put_number(memory, at, 1),
-        RoundNumber::Second => put_number(memory, at, 2),
+        RoundNumber::First => put_number(memory, at, 1u8),
+        RoundNumber::Second => put_number(memory, at, 2u8),
     }
 }
 

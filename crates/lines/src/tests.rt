@@ -2,6 +2,7 @@
 use crate::line::Line;
 use crate::put::put_line;
 use calls::round_number::RoundNumber;
+use rules::name::Name;
 use rules::refusal::{Fault, Refusal, Stop};
 use std::process::Abort;
 use std::test::Fail;
@@ -41,7 +42,9 @@ fn calls(rt: HostRuntime) -> Result<(), Fail> {
 #[test]
 fn rounds(rt: HostRuntime) -> Result<(), Fail> {
     let round = RoundNumber::Second;
-    let name = u64::from_be_bytes(*b"ASHGROVE");
+    let name = Name {
+        bytes: *b"ASHGROVE",
+    };
     let low = -10_000_000_000;
     stands(
         &rt,

@@ -1,32 +1,17 @@
--- How far a scan of a table has come.
-use Rattle.std.proofs.Common.{◌≡◌, ℕ, zero, suc, ◌+◌, ◌<◌, Bool, true, false, cond, List, [], ◌∷◌, length, get_or, drop, Some, None, Option, Ordering, sym, refl, ap, ◌∙◌, add-zero, zero-add, add-one, arith}
-use Rattle.std.proofs.lemmas.List.{at_drop_more, at_drop_all}
+-- What a search of a table comes to.
+use Rattle.std.proofs.Common.{◌≡◌, ℕ, zero, suc, ◌+◌, ◌<◌, length, get_or, Bool, true, false, cond, List, [], ◌∷◌, Some, None, Option, Ordering, sym, refl, ap, ◌∙◌, add-zero, zero-add, add-one, arith}
+use Rattle.std.proofs.lemmas.Iterator.Adapters.{position_from-zero}
+use Rattle.std.proofs.lemmas.List.Recursion.{is_position_or_len}
+use Rattle.std.specs.List.{position, position_from, position_or_len}
 use Rattle.std.specs.Option.{option_map}
 use Rattle.std.specs.Ordering.{is_eq, is_lt}
 use Rattle.ranked.specs.Order.{behind, found, FirstLevel}
 
-module _ {X : Type 0} (cmp : X → X → Ordering) (x : X) where
-  step : (xs : List X) (i : ℕ) (y : X) (b : Bool) → i < length xs → y ≡ get_or xs i y → b ≡ is_lt (cmp x y) → behind cmp x (drop i xs) ≡ cond b 0 (behind cmp x (drop (i + 1) xs) + 1)
-  step xs i y b lt read t =
-      at_drop_more (behind cmp x) xs i y lt ∙ ap (λ z. behind cmp x (z ∷ drop (i + 1) xs)) (sym read) ∙ ap (λ v. cond v 0 (behind cmp x (drop (i + 1) xs) + 1)) (sym t)
-
-  -- the record at i is the first that x ranks before
-  pub behind_here : (xs : List X) (i : ℕ) (y : X) → i < length xs → y ≡ get_or xs i y → true ≡ is_lt (cmp x y) → i + behind cmp x (drop i xs) ≡ behind cmp x xs → i ≡ behind cmp x xs
-  behind_here xs i y lt read t inv = omega (arith, step xs i y true lt read t)
-
-  -- x goes behind the record at i
-  pub behind_more : (xs : List X) (i : ℕ) (y : X) → i < length xs → y ≡ get_or xs i y → false ≡ is_lt (cmp x y) → i + behind cmp x (drop i xs) ≡ behind cmp x xs → (i + 1) + behind cmp x (drop (i + 1) xs) ≡ behind cmp x xs
-  behind_more xs i y lt read t inv = omega (arith, step xs i y false lt read t)
-
-  -- x goes behind all
-  pub behind_all : (xs : List X) (i : ℕ) → length xs ≡ i → i + behind cmp x (drop i xs) ≡ behind cmp x xs → i ≡ behind cmp x xs
-  behind_all xs i e inv = omega (arith, at_drop_all (behind cmp x) xs i (omega arith))
-
 -- a place counted from i on, counted from the front
-abbrev pub onward : ℕ → Option ℕ → Option ℕ
+abbrev onward : ℕ → Option ℕ → Option ℕ
 onward i o = option_map (λ n. n + i) o
 
-pub onward_none : (o : Option ℕ) → onward 0 o ≡ o
+onward_none : (o : Option ℕ) → onward 0 o ≡ o
 onward_none None = refl
 onward_none (Some n) = ap Some (add-zero n)
 
@@ -34,23 +19,22 @@ onward_more : (i : ℕ) (o : Option ℕ) → onward i (option_map (λ n. n + 1) 
 onward_more i None = refl
 onward_more i (Some n) = ap Some (omega arith)
 
+onward_found : (i : ℕ) (b : Bool) (o : Option ℕ) → onward i (cond b (Some 0) (option_map (λ n. n + 1) o)) ≡ cond b (Some i) (onward (i + 1) o)
+onward_found i true o = ap Some (zero-add i)
+onward_found i false o = onward_more i o
+
 module _ {X : Type 0} (cmp : X → X → Ordering) (x : X) where
-  look : (xs : List X) (i : ℕ) (y : X) (b : Bool) → i < length xs → y ≡ get_or xs i y → b ≡ is_eq (cmp x y) → found cmp x (drop i xs) ≡ cond b (Some 0) (option_map (λ n. n + 1) (found cmp x (drop (i + 1) xs)))
-  look xs i y b lt read t =
-      at_drop_more (found cmp x) xs i y lt ∙ ap (λ z. found cmp x (z ∷ drop (i + 1) xs)) (sym read) ∙ ap (λ v. cond v (Some 0) (option_map (λ n. n + 1) (found cmp x (drop (i + 1) xs)))) (sym t)
+  -- x goes in front of the first record that it stands before
+  pub behind_is : (xs : List X) → behind cmp x xs ≡ position_or_len (λ y. is_lt (cmp x y)) xs
+  behind_is = is_position_or_len (behind cmp x) (λ y. is_lt (cmp x y)) refl (λ y ys. ap (cond (is_lt (cmp x y)) 0) (omega arith))
 
-  -- the record at i is the first that is level with x
-  pub found_here : (xs : List X) (i : ℕ) (y : X) → i < length xs → y ≡ get_or xs i y → true ≡ is_eq (cmp x y) → onward i (found cmp x (drop i xs)) ≡ found cmp x xs → Some i ≡ found cmp x xs
-  found_here xs i y lt read t inv = ap Some (sym (zero-add i)) ∙ sym (ap (onward i) (look xs i y true lt read t)) ∙ inv
+  found_from : (xs : List X) (i : ℕ) → onward i (found cmp x xs) ≡ position_from (λ y. is_eq (cmp x y)) i xs
+  found_from [] i = refl
+  found_from (y ∷ ys) i = onward_found i (is_eq (cmp x y)) (found cmp x ys) ∙ ap (cond (is_eq (cmp x y)) (Some i)) (found_from ys (i + 1))
 
-  -- the record at i is not
-  pub found_more : (xs : List X) (i : ℕ) (y : X) → i < length xs → y ≡ get_or xs i y → false ≡ is_eq (cmp x y) → onward i (found cmp x (drop i xs)) ≡ found cmp x xs → onward (i + 1) (found cmp x (drop (i + 1) xs)) ≡ found cmp x xs
-  found_more xs i y lt read t inv =
-      sym (onward_more i (found cmp x (drop (i + 1) xs))) ∙ sym (ap (onward i) (look xs i y false lt read t)) ∙ inv
-
-  -- none is
-  pub found_all : (xs : List X) (i : ℕ) → length xs ≡ i → onward i (found cmp x (drop i xs)) ≡ found cmp x xs → None ≡ found cmp x xs
-  found_all xs i e inv = sym (ap (onward i) (at_drop_all (found cmp x) xs i (omega arith))) ∙ inv
+  -- the first record that is level with x
+  pub found_is : (xs : List X) → found cmp x xs ≡ position (λ y. is_eq (cmp x y)) xs
+  found_is xs = sym (onward_none (found cmp x xs)) ∙ found_from xs 0 ∙ sym (position_from-zero (λ y. is_eq (cmp x y)) xs)
 
   one_more : (y : X) (ys : List X) (i : ℕ) → is_eq (cmp x y) ≡ false → ((k : ℕ) (d : X) → k < i → is_eq (cmp x (get_or ys k d)) ≡ false) → (k : ℕ) (d : X) → k < i + 1 → is_eq (cmp x (get_or (y ∷ ys) k d)) ≡ false
   one_more y ys i e h zero d l = e

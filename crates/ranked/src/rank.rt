@@ -5,7 +5,8 @@ ghost use Rattle.ranked.specs.Order.{TotalOrder};
 
 use std::cmp::Ordering;
 
-// A record stands before, level with or after another of its kind.
+// A record stands before, level with or after another of its kind. No `Ord`: that has to read each field that `==` reads, and
+// a member stands by its name alone, a bid by its price alone.
 pub trait Rank {
     ghost ranks: { Self → Self → Ordering };
 

@@ -9,7 +9,7 @@ use Rattle.rules.specs.declared.refusal.Refusal.{Refusal}
 use Rattle.rules.specs.declared.refusal.Fault.{Fault}
 use Rattle.rules.specs.State.{State}
 use Rattle.rules.specs.Calls.{Did, refusal, answer}
-use Rattle.report.specs.Lines.{refused_line, stopped_line}
+use Rattle.lines.specs.Lines.{refused_line, stopped_line}
 use Rattle.report.specs.Statement.{called, noted, lines_of}
 
 -- the lines to come, from a place on

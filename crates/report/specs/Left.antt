@@ -1,13 +1,12 @@
 -- The lines that a report has still to give, and what the next one leaves in memory.
 use Rattle.std.specs.Prelude.{ℕ, ◌+◌, ◌-◌, Bool, cond, List, [], ◌∷◌, ◌++◌, length, drop, Some, None, Ok, Err, Option, Result, nat_lt}
 use Rattle.callfile.specs.Readings.{reading_from}
+use Rattle.lines.specs.Told.{bytes_of}
+use Rattle.lines.specs.declared.line.Line.{Line}
 use Rattle.record.specs.Look.{state}
 use Rattle.rules.specs.declared.refusal.Refusal.{Refusal}
 use Rattle.rules.specs.declared.refusal.Refusal.TheVariants.{ShortMemory}
 use Rattle.report.specs.declared.report.Report.{Report}
-use Rattle.report.specs.declared.report.Event.{Event}
-use Rattle.report.specs.declared.report.Event.TheVariants.{Refused, Stopped}
-use Rattle.report.specs.Lines.{refused_line, stopped_line}
 use Rattle.report.specs.Statement.{lines_of}
 
 -- the file that a report is of
@@ -22,14 +21,10 @@ left r = cond r.ended [] (lines_of (state r.ledger) r.count (reading_from (file_
 abbrev pub ahead : Report → ℕ
 ahead r = cond r.ended 0 (length (file_of r) - r.reader.place + 1)
 
--- the line of what happened; none where nothing did
-abbrev pub told : Event → List ℕ
-told (Refused count refusal) = refused_line count refusal
-told (Stopped fault) = stopped_line fault
-
-abbrev pub told_of : Option Event → List (List ℕ)
+-- the bytes of what there is to tell, if there is anything
+abbrev pub told_of : Option Line → List (List ℕ)
 told_of None = []
-told_of (Some e) = told e ∷ []
+told_of (Some line) = bytes_of line ∷ []
 
 abbrev pub is_short : List ℕ → Bool
 is_short memory = nat_lt (length memory) 32

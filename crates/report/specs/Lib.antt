@@ -1,3 +1,2 @@
-pub mod Lines
 pub mod Statement
 pub mod Left

@@ -5,15 +5,14 @@ use Rattle.callfile.specs.declared.call.Call.TheVariants.{Enrol, CloseRoll, Mult
 use Rattle.callfile.specs.Readings.{Reading, reading}
 use Rattle.rules.specs.declared.refusal.Refusal.{Refusal}
 use Rattle.rules.specs.declared.refusal.Fault.{Fault}
-use Rattle.rules.specs.Names.{spelling}
 use Rattle.rules.specs.State.{State, fresh}
 use Rattle.rules.specs.Calls.{Call, refusal, step}
 use Rattle.rules.specs.Calls.Call.{multiplier, enrol, close_roll}
-use Rattle.report.specs.Lines.{refused_line, stopped_line}
+use Rattle.lines.specs.Lines.{refused_line, stopped_line}
 
 -- the call on a record that a call of a file makes
 abbrev pub called : FileCall → Call
-called (Enrol name contribution) = enrol (record { name = record { bytes = spelling name }; contribution = contribution })
+called (Enrol name contribution) = enrol (record { name = name; contribution = contribution })
 called CloseRoll = close_roll
 called (Multiplier thousandths) = multiplier thousandths
 

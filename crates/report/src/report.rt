@@ -3,13 +3,12 @@ ghost use Rattle.std.specs.Prelude.{◌≤◌, length};
 
 use callfile::reader::Reader;
 use record::record::Record;
-use rules::refusal::{Fault, Refusal};
 
-mod lines;
 pub mod next;
 mod run;
 
-// `count` calls were read: no more than bytes. Of a file only the first 65,536 bytes are read.
+// `count` calls were read: no more than bytes. Of a file only the first 65,536 bytes are read. The reader stays once the
+// reading has ended, and no `Option` holds it: what is promised of a report speaks of its file.
 #[derive(Drop)]
 pub struct Report<'a> {
     reader: Reader<'a>,
@@ -18,11 +17,4 @@ pub struct Report<'a> {
     ended: bool,
     ghost few: { count ≤ reader.place },
     ghost short: { length reader.file.now ≤ 65536 },
-}
-
-// What a line tells of.
-#[derive(Clone, Copy)]
-pub(crate) enum Event {
-    Refused { count: u64, refusal: Refusal },
-    Stopped(Fault),
 }

@@ -1,4 +1,3 @@
-pub mod PlainNames
 pub mod Rolls
 pub mod Steps
 pub mod Histories
@@ -14,3 +13,4 @@ pub mod Clearing
 pub mod Marks
 pub mod Soundness
 pub mod Shortness
+pub mod Spelled

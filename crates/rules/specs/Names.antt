@@ -1,5 +1,6 @@
 -- Names: which bytes they may have, how they rank, and which name a number spells.
-use Rattle.std.specs.Prelude.{ℕ, ◌/◌, ◌%◌, Bool, true, ◌&&◌, ◌||◌, List, [], ◌∷◌, nat_le}
+use Rattle.std.specs.Prelude.{ℕ, ◌/◌, ◌%◌, Bool, ◌&&◌, ◌||◌, List, [], ◌∷◌, nat_le}
+use Rattle.std.specs.List.{list_all}
 use Rattle.std.specs.declared.cmp.Ordering.TheVariants.{Less, Equal, Greater}
 use Rattle.std.specs.declared.cmp.Ordering.{Ordering}
 use Rattle.std.specs.Ordering.{nat_cmp, ordering_then}
@@ -8,9 +9,9 @@ use Rattle.std.specs.Ordering.{nat_cmp, ordering_then}
 abbrev pub is_plain_byte : ℕ → Bool
 is_plain_byte b = (nat_le 65 b && nat_le b 90) || (nat_le 48 b && nat_le b 57)
 
+-- each byte is
 abbrev pub is_plain : List ℕ → Bool
-is_plain [] = true
-is_plain (b ∷ bs) = is_plain_byte b && is_plain bs
+is_plain bytes = list_all is_plain_byte bytes
 
 -- byte by byte: the first that differs decides
 abbrev pub by_bytes : List ℕ → List ℕ → Ordering

@@ -6,7 +6,7 @@ use ranked::rank::Rank;
 use std::cmp::Ordering;
 
 // The size is in parts, a millionth of what the round opens with; the price is in euros for a million parts.
-#[derive(Clone, Copy)]
+#[derive(Clone, Copy, PartialEq, Eq, Debug)]
 pub struct Bid {
     pub member: u8,
     pub size: u32,

@@ -2,22 +2,16 @@
 ghost use Rattle.rules.specs.FractionLaws.{FractionsBounded, NoShortfallNoFraction, PartsMakeContribution};
 
 // No fraction passes one: of a round, of a package, in total.
-pub fn fractions_bounded() -> u8
+pub fn fractions_bounded()
     ensures { FractionsBounded }
-{
-    0
-}
+{}
 
 // The junior and the senior part make the contribution.
-pub fn parts_make_contribution() -> u8
+pub fn parts_make_contribution()
     ensures { PartsMakeContribution }
-{
-    0
-}
+{}
 
 // Who has no shortfall in any round has no fraction and no junior part.
-pub fn no_shortfall_no_fraction() -> u8
+pub fn no_shortfall_no_fraction()
     ensures { NoShortfallNoFraction }
-{
-    0
-}
+{}

@@ -2,8 +2,6 @@
 ghost use Rattle.rules.specs.Laws.{EveryList};
 
 // The law of every list of calls on a new record, accepted and refused.
-pub fn every_list() -> u8
+pub fn every_list()
     ensures { EveryList }
-{
-    0
-}
+{}

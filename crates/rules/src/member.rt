@@ -7,7 +7,7 @@ use ranked::rank::Rank;
 use std::cmp::Ordering;
 
 // The contribution is in whole euros.
-#[derive(Clone, Copy)]
+#[derive(Clone, Copy, PartialEq, Eq, Debug)]
 pub struct Member {
     pub name: Name,
     pub contribution: u64,

@@ -7,44 +7,48 @@ use ranked::rank::Rank;
 use std::cmp::Ordering;
 
 // Eight bytes. On the roll each is a capital letter or a digit.
-#[derive(Clone, Copy)]
+#[derive(Clone, Copy, PartialEq, Eq, Debug)]
 pub struct Name {
     pub bytes: [u8; 8],
 }
 
 impl Name {
-    // The name that a number spells, highest byte first.
-    pub fn spelled(number: u64) -> Name
-        ensures { result.bytes ≡ spelling number }
-    {
-        Name {
-            bytes: number.to_be_bytes(),
-        }
-    }
-
     // Whether each byte is a capital letter or a digit.
     pub fn is_plain(&self) -> bool
         ensures { result ≡ is_plain self.now.bytes }
     {
-        for byte in self.bytes.iter() {
-            if !is_plain_byte(*byte) {
-                return false;
-            }
+        self.bytes.iter().all(|byte| is_plain_byte(*byte))
+    }
+}
+
+// The name that a number spells, highest byte first.
+impl From<u64> for Name {
+    ghost from_gives = { λ number name. name.bytes ≡ spelling number };
+
+    fn from(number: u64) -> Name {
+        Name {
+            bytes: number.to_be_bytes(),
         }
-        true
+    }
+}
+
+// The number that spells a name.
+impl From<Name> for u64 {
+    ghost from_gives = { λ name number. spelling number ≡ name.bytes };
+
+    fn from(name: Name) -> u64 {
+        u64::from_be_bytes(name.bytes)
     }
 }
 
 fn is_plain_byte(byte: u8) -> bool
     ensures { result ≡ is_plain_byte byte }
 {
-    match byte {
-        b'A'..=b'Z' | b'0'..=b'9' => true,
-        _ => false,
-    }
+    matches!(byte, b'A'..=b'Z' | b'0'..=b'9')
 }
 
-// Byte by byte, the first that differs decides.
+// Byte by byte, the first that differs decides. Members rank by this, so its law is shown once, here, and no derived `Ord` says
+// the same beside it.
 impl Rank for Name {
     ghost ranks = { λ a b. by_bytes a.bytes b.bytes };
 

@@ -21,6 +21,7 @@ pub enum Refusal {
 }
 
 impl Refusal {
+    // The number that a statement tells. No `From`: it would not say which number.
     pub fn number(self) -> u8
         ensures { result ≡ number (refused self) }
     {
@@ -57,6 +58,7 @@ pub struct Fault {
 }
 
 impl Fault {
+    // The number that a statement tells.
     pub fn number(self) -> u8
         ensures { result ≡ number (stopped self) }
     {

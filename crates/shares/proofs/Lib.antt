@@ -1,3 +1,5 @@
 pub mod Totals
-pub mod Rows
+pub mod Writing
 pub mod Sharing
+pub mod Turns
+pub mod Sums

@@ -4,6 +4,7 @@
 #![tactic(auto)]
 
 pub mod laws;
+pub mod rows;
 
 ghost use Rattle.std.specs.Prelude.{◌≡◌, ℕ, ◌+◌, ◌<◌, ◌≤◌, length, MatchOption, nat_le};
 ghost use Rattle.shares.specs.Sums.{total, at};
@@ -26,23 +27,38 @@ fn dealt_to(amount: u64, base: u64, sum: u64) -> u64
     requires within { sum ≤ base }
     ensures { result ≡ dealt amount base sum }
 {
-    let based = 0 < base;
-    if !based {
+    if base == 0 {
         return 0;
     }
-    (amount as u128 * sum as u128 / base as u128) as u64
+    // It is at most the amount, so it fits.
+    (u128::from(amount) * u128::from(sum) / u128::from(base)) as u64
+}
+
+// Why weights are not shared out.
+#[derive(Clone, Copy, PartialEq, Eq, Debug)]
+pub enum Unshared {
+    FewPlaces,
+    PastBase,
 }
 
 // Writes the share of each weight to its place, and keeps the places behind the last weight.
-// Where the weights pass the base or the places, it answers false and writes nothing.
-pub fn share_out(amount: u64, base: u64, weights: &[u64], shares: &mut [u64]) -> bool
+// Where the weights pass the places, or together the base, it writes nothing.
+pub fn share_out(
+    amount: u64,
+    base: u64,
+    weights: &[u64],
+    shares: &mut [u64],
+) -> Result<(), Unshared>
     ensures { SharedOut amount base weights.now shares.old shares.new result }
 {
-    if shares.len() < weights.len() || !within(base, weights) {
-        return false;
+    if shares.len() < weights.len() {
+        return Err(Unshared::FewPlaces);
+    }
+    if !within(base, weights) {
+        return Err(Unshared::PastBase);
     }
     write_shares(amount, base, weights, shares);
-    true
+    Ok(())
 }
 
 // Whether the weights together stay within the base.
@@ -67,6 +83,7 @@ fn write_shares(amount: u64, base: u64, weights: &[u64], shares: &mut [u64])
 {
     let mut before = 0;
     let mut given = 0;
+    // Not `zip` with `iter_mut`: nothing is known then of what was written.
     for (i, weight) in weights.iter().enumerate() {
         let after = before + *weight;
         let next = dealt_to(amount, base, after);
@@ -92,7 +109,7 @@ mod tests {
     fn figures(rt: HostRuntime) {
         for (amount, base, weights, expected) in FIGURES {
             let mut shares = [9; 3];
-            assert!(rt; share_out(amount, base, &weights, &mut shares));
+            assert_eq!(rt; share_out(amount, base, &weights, &mut shares), Ok(()));
             assert_eq!(rt; shares, expected);
             let second = share(amount, base, weights[0], weights[1]);
             assert_eq!(rt; second, Some(expected[1]));
@@ -102,10 +119,16 @@ mod tests {
     #[test]
     fn refusals(rt: HostRuntime) {
         let mut shares = [9; 3];
-        assert!(rt; !share_out(10, 2, &[1, 1, 1], &mut shares));
-        assert!(rt; !share_out(10, 5, &[1, 1, 1, 1], &mut shares));
+        assert_eq!(rt;
+            share_out(10, 2, &[1, 1, 1], &mut shares),
+            Err(Unshared::PastBase)
+        );
+        assert_eq!(rt;
+            share_out(10, 5, &[1, 1, 1, 1], &mut shares),
+            Err(Unshared::FewPlaces)
+        );
         assert_eq!(rt; shares, [9; 3]);
-        assert!(rt; share_out(10, 5, &[1, 4], &mut shares));
+        assert_eq!(rt; share_out(10, 5, &[1, 4], &mut shares), Ok(()));
         assert_eq!(rt; shares, [2, 8, 9]);
         assert_eq!(rt; share(10, 2, 1, 2), None);
         assert_eq!(rt; share(10, 2, u64::MAX, 1), None);

@@ -1,16 +1,8 @@
 -- How many bytes a number takes.
-use Rattle.std.proofs.Common.{◌≡◌, ℕ, ◌+◌, ◌/◌, ◌^◌, ◌<◌, ◌≤◌, length, ℤ, decimal, ap, ◌∙◌, arith, length-append}
+use Rattle.std.proofs.Common.{ℕ, ◌+◌, ◌^◌, ◌<◌, ◌≤◌, length, ℤ, decimal, arith}
 use lib.Signed.{mag}
 use Rattle.std.specs.Fmt.{signed_decimal}
-use Rattle.std.proofs.lemmas.Fmt.{decimal_digit, decimal_step, length-decimal-le, length_signed_le}
-
--- A number below 10 has one digit.
-pub length_digit : (n : ℕ) → n < 10 → length (decimal n) ≡ 1
-length_digit n h = ap length (decimal_digit n h)
-
--- Any other has one more than its tenth.
-pub length-step : (n : ℕ) → 10 ≤ n → n < 2 ^ 64 → length (decimal n) ≡ length (decimal (n / 10)) + 1
-length-step n h k = ap length (decimal_step n h k) ∙ length-append (decimal (n / 10)) _
+use Rattle.std.proofs.lemmas.Fmt.{length-decimal-le, length_signed_le}
 
 -- A number below 10 ^ k has at most k digits.
 pub decimal_at_most : (k n : ℕ) → 0 < k → n < 10 ^ k → n < 2 ^ 64 → length (decimal n) ≤ k

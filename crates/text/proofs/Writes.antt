@@ -1,31 +1,9 @@
 -- One text after another at a place of memory.
-use Rattle.std.proofs.Common.{◌≡◌, ℕ, ◌+◌, ◌-◌, ◌/◌, ◌%◌, ◌^◌, ◌<◌, ◌≤◌, true, List, [], ◌∷◌, ◌++◌, length, take, drop, set, ℤ, pos, negsuc, nat_abs, Some, None, decimal, Option, sym, refl, ap, ◌∙◌, subst, append_assoc, append-nil, zero-add, arith, length-append, length-set, take-append-drop, rules}
-use lib.Signed.{lt_z}
+use Rattle.std.proofs.Common.{◌≡◌, ℕ, ◌+◌, ◌-◌, ◌≤◌, List, ◌++◌, length, take, drop, Some, None, Option, sym, refl, ap, ◌∙◌, subst, append_assoc, zero-add, arith, length-append, take-append-drop}
 use borrow.Rule.Slice.PartMut.{put_mid}
-use Rattle.std.specs.Fmt.{signed_decimal}
-use Rattle.std.proofs.lemmas.List.{take_more_set, drop-set-lt, drop-drop}
-use Rattle.std.proofs.lemmas.Fmt.{decimal_digit, decimal_step}
+use Rattle.std.proofs.lemmas.List.{drop-drop}
 use Rattle.std.proofs.lemmas.Slice.{take-put_mid, drop-put_mid}
 use Rattle.text.specs.Writing.{Written, Refused, Put, Tried}
-
--- Nothing is written.
-pub written_none : (before : List ℕ) (at : ℕ) → at ≤ length before → Written before at [] before at
-written_none before at h = record {
-  ends = omega arith;
-  room = h;
-  size = refl;
-  front = sym (append-nil (take at before));
-  rest = refl;
-}
-
-pub written_byte : (before : List ℕ) (at byte : ℕ) → at < length before → Written before at (byte ∷ []) (set before at byte) (at + 1)
-written_byte before at byte h = record {
-  ends = refl;
-  room = omega arith;
-  size = length-set before at byte;
-  front = take_more_set before at byte h;
-  rest = drop-set-lt (at + 1) before at byte (omega arith);
-}
 
 -- One text after another.
 pub written_then : {before middle after xs ys : List ℕ} {at between end : ℕ} →
@@ -103,17 +81,3 @@ written_text before part bytes at end ends room same size =
       front = take-put_mid at _ before part _ (omega arith) (omega arith) ∙ ap (λ z. take at before ++ z) same;
       rest = drop-put_mid at _ before part _ (omega arith) (omega arith) (omega arith);
     }
-
--- A number of one digit.
-pub written_digit : {before after : List ℕ} {at n end : ℕ} → n < 10 → Written before at ((48 + n) ∷ []) after end → Written before at (decimal n) after end
-written_digit {before} {after} {at} {n} {end} h a = rw decimal_digit a
-
--- The last digit after those of the tenth.
-pub written_step : {before middle after : List ℕ} {at n between end : ℕ} → 10 ≤ n → n < 2 ^ 64 →
-    Written before at (decimal (n / 10)) middle between → Written middle between ((48 + n % 10) ∷ []) after end → Written before at (decimal n) after end
-written_step {before} {middle} {after} {at} {n} {between} {end} h k a b = rw (decimal_step n h k) (written_then a b)
-
--- A number below 0 is a minus and its size.
-pub signed_below : (z : ℤ) → lt_z z (pos 0) ≡ true → 45 ∷ decimal (nat_abs z) ≡ signed_decimal z
-signed_below (pos n) h = search rules
-signed_below (negsuc n) h = refl

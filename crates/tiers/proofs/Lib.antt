@@ -1,3 +1,4 @@
+pub mod Rows
 pub mod Bearing
 pub mod Settling
 pub mod Rising

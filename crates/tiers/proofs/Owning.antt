@@ -8,12 +8,15 @@ use Rattle.tiers.specs.Piles.Pile.{one}
 use Rattle.tiers.specs.Waterfall.{charged}
 use Rattle.tiers.specs.Charging.{Rule, in_turn, pro_rata, rest, Charged}
 use Rattle.tiers.specs.OwnPile.{Rows, estate_row, own_share_row, member_row, own_rows, to_own_share, to_juniors, to_seniors, own_charges, own_charge, unborne, four_tiers, no_rows, EachCharged, OwnBore, OwnCharged}
-use Rattle.tiers.specs.Laws.{OwnPileBears, OwnChargeIs, JuniorsFirst}
-use Rattle.tiers.specs.Tables.{left_of, Opened}
-use Rattle.tiers.specs.OwnTiers.{FourTiers, left_rows, borne_rows, pile_of, OwnMade}
+use Rattle.tiers.specs.Laws.{Lawful, OwnPileBears, OwnChargeIs, JuniorsFirst}
+use Rattle.tiers.specs.Tables.{account_at, borne_of, left_of, Opened}
+use Rattle.tiers.specs.Meanings.{borne_in}
+use Rattle.tiers.specs.OwnTiers.{FourTiers, left_rows, borne_rows, pile_of, rows_of, OwnMade}
+use Rattle.tiers.specs.declared.accounts.Account.{Account}
 use Rattle.tiers.specs.declared.accounts.Accounts.{Accounts}
+use Rattle.tiers.specs.declared.own.OwnAmounts.{OwnAmounts}
 use Rattle.tiers.proofs.Settling.{settled}
-use Rattle.tiers.proofs.Rising.{Lawful, bore_by}
+use Rattle.tiers.proofs.Rising.{bore_by}
 use Rattle.tiers.proofs.Rules.{in_turn_lawful, pro_rata_lawful, in_turn_same, pro_rata_same, rest_same}
 
 -- A new tier that charges by a rule has borne.
@@ -113,37 +116,45 @@ own_bore k b k' b' x x₁ x₂ x₃ back e o j s ce co cj cs =
     }
 
 -- A table that is opened with a row of capacities can bear them, and has borne nothing.
-opened_row : (limit : ℕ) (row : ℕ → ℕ) (given capacity borne : List ℕ) → Opened limit given capacity borne →
-    ((a : ℕ) → a < 64 → at given a ≡ row a) → (a : ℕ) → a < 64 → (left_of capacity borne a ≡ row a) × (at borne a ≡ 0)
-opened_row limit row given capacity borne opened is a h =
-    let same = ap (λ (xs : List ℕ). at xs a) opened.as_given in
-    (omega (arith, is a h, opened.unborne a h), opened.unborne a h)
+opened_row : (limit : ℕ) (row : ℕ → ℕ) (given : List ℕ) (accounts : List Account) → Opened limit given accounts →
+    ((a : ℕ) → a < 64 → at given a ≡ row a) → (a : ℕ) → a < 64 → (left_of accounts a ≡ row a) × (borne_of accounts a ≡ 0)
+opened_row limit row given accounts opened is a h =
+    (omega (arith, is a h, opened.as_given a h, opened.unborne a h), opened.unborne a h)
+
+-- Its row is within the limit.
+opened_low : (limit : ℕ) (row : ℕ → ℕ) (given : List ℕ) (accounts : List Account) → Opened limit given accounts →
+    ((a : ℕ) → a < 64 → at given a ≡ row a) → (a : ℕ) → a < 64 → row a ≤ limit
+opened_low limit row given accounts opened is a h = omega (arith, is a h, opened.as_given a h, opened.limited a h)
 
 -- The four tiers are our own pile where each is opened with its row.
-pub own_made : (cash pledges share : ℕ) (juniors seniors : ℕ → ℕ) (t : FourTiers) (e o j s : List ℕ) →
-    Opened 10000000000 e t.upper.accounts.capacity t.upper.accounts.borne →
-    Opened 10000000000 o t.lower.upper.accounts.capacity t.lower.upper.accounts.borne →
-    Opened 25000000 j t.lower.lower.upper.accounts.capacity t.lower.lower.upper.accounts.borne →
-    Opened 25000000 s t.lower.lower.lower.accounts.capacity t.lower.lower.lower.accounts.borne →
-    ((a : ℕ) → a < 64 → at e a ≡ estate_row cash pledges a) →
-    ((a : ℕ) → a < 64 → at o a ≡ own_share_row share a) →
-    ((a : ℕ) → a < 64 → at j a ≡ member_row juniors a) →
-    ((a : ℕ) → a < 64 → at s a ≡ member_row seniors a) →
-    OwnMade cash pledges share juniors seniors t
-own_made cash pledges share juniors seniors t e o j s oe oo oj os ise iso isj iss =
+pub own_made : (amounts : OwnAmounts) (t : FourTiers) (e o j s : List ℕ) →
+    Opened 10000000000 e t.upper.accounts.each →
+    Opened 10000000000 o t.lower.upper.accounts.each →
+    Opened 25000000 j t.lower.lower.upper.accounts.each →
+    Opened 25000000 s t.lower.lower.lower.accounts.each →
+    ((a : ℕ) → a < 64 → at e a ≡ (rows_of amounts).estate a) →
+    ((a : ℕ) → a < 64 → at o a ≡ (rows_of amounts).own_share a) →
+    ((a : ℕ) → a < 64 → at j a ≡ (rows_of amounts).juniors a) →
+    ((a : ℕ) → a < 64 → at s a ≡ (rows_of amounts).seniors a) →
+    OwnMade amounts t
+own_made amounts t e o j s oe oo oj os ise iso isj iss =
+    let k = rows_of amounts in
+    let low_e = opened_low 10000000000 k.estate e _ oe ise in
+    let low_j = opened_low 25000000 k.juniors j _ oj isj in
+    let low_s = opened_low 25000000 k.seniors s _ os iss in
     record {
       in_limits = record {
-        cash_low = omega (arith, ise 60 (omega arith), oe.limited 60 (omega arith));
-        pledges_low = omega (arith, ise 61 (omega arith), oe.limited 61 (omega arith));
-        share_low = omega (arith, iso 62 (omega arith), oo.limited 62 (omega arith));
-        juniors_low = λ a h. omega (arith, member_part juniors a h, isj a (omega arith), oj.limited a (omega arith));
-        seniors_low = λ a h. omega (arith, member_part seniors a h, iss a (omega arith), os.limited a (omega arith));
+        cash_low = low_e 60 (omega arith);
+        pledges_low = low_e 61 (omega arith);
+        share_low = opened_low 10000000000 k.own_share o _ oo iso 62 (omega arith);
+        juniors_low = λ a h. omega (arith, member_part (at amounts.juniors.now) a h, low_j a (omega arith));
+        seniors_low = λ a h. omega (arith, member_part (at amounts.seniors.now) a h, low_s a (omega arith));
       };
       means = (
-        opened_row 10000000000 (estate_row cash pledges) e _ _ oe ise,
+        opened_row 10000000000 k.estate e _ oe ise,
         (
-          opened_row 10000000000 (own_share_row share) o _ _ oo iso,
-          (opened_row 25000000 (member_row juniors) j _ _ oj isj, opened_row 25000000 (member_row seniors) s _ _ os iss),
+          opened_row 10000000000 k.own_share o _ oo iso,
+          (opened_row 25000000 k.juniors j _ oj isj, opened_row 25000000 k.seniors s _ os iss),
         ),
       );
     }
@@ -172,34 +183,40 @@ same_rows k b l c same x a h =
     four_sum p q r s = omega arith
 
 -- What our own pile, made new, has borne once it bore a loss.
-pub own_charged : (cash pledges share : ℕ) (juniors seniors : ℕ → ℕ) (loss : ℕ) (t t' : FourTiers) (row : List ℕ) (back : ℕ) →
-    OwnMade cash pledges share juniors seniors t →
+pub own_charged : (amounts : OwnAmounts) (loss : ℕ) (t t' : FourTiers) (row : List ℕ) (back : ℕ) →
+    OwnMade amounts t →
     OwnBore (left_rows t) (borne_rows t) loss (left_rows t') (borne_rows t') back →
     length row ≡ 64 → ((a : ℕ) → a < 64 → at row a ≡ told (borne_at (pile_of t') a)) →
-    OwnCharged cash pledges share juniors seniors loss row back
-own_charged cash pledges share juniors seniors loss t t' row back made bore wide is =
-    let k = own_rows cash pledges share juniors seniors in
+    OwnCharged (rows_of amounts) loss row back
+own_charged amounts loss t t' row back made bore wide is =
+    let k = rows_of amounts in
     let same = same_rows (left_rows t) (borne_rows t) k no_rows made.means loss in
-    let small : (a : ℕ) → a < 64 → borne_at (pile_of t') a ≤ 40000000000 = λ a h.
+    let rose : (a : ℕ) → a < 64 → charged (pile_of t) (pile_of t') a ≡ at row a = λ a h.
     omega (
       arith,
-      held t'.upper.accounts a h,
-      held t'.lower.upper.accounts a h,
-      held t'.lower.lower.upper.accounts a h,
-      held t'.lower.lower.lower.accounts a h,
+      is a h,
+      low t'.upper.accounts a,
+      low t'.lower.upper.accounts a,
+      low t'.lower.lower.upper.accounts a,
+      low t'.lower.lower.lower.accounts a,
+      (made.means.0 a h).1,
+      (made.means.1.0 a h).1,
+      (made.means.1.1.0 a h).1,
+      (made.means.1.1.1 a h).1,
     ) in
-    let new : (a : ℕ) → a < 64 → borne_at (pile_of t) a ≡ 0 = λ a h.
-    omega (arith, (made.means.0 a h).1, (made.means.1.0 a h).1, (made.means.1.1.0 a h).1, (made.means.1.1.1 a h).1) in
-    let rose : (a : ℕ) → a < 64 → charged (pile_of t) (pile_of t') a ≡ at row a = λ a h. omega (arith, is a h, small a h, new a h) in
     let each : (a : ℕ) → a < 64 → at row a ≡ own_charge k loss a = λ a h.
     sym (rose a h) ∙ charged_in_all (left_rows t) (borne_rows t) (own_charges (left_rows t) loss) (left_rows t') (borne_rows t') bore.each a h ∙ (same a h).0 in
+    let part = member_part (at amounts.juniors.now) in
     record {
       wide = wide;
       each = each;
       answers = bore.answers ∙ (same 0 (omega arith)).1;
       whole = omega (arith, bore.settled.whole, total_same 64 (charged (pile_of t) (pile_of t')) (at row) rose);
-      juniors_first = λ m h none some. juniors_first cash pledges share juniors seniors loss m h none (omega (arith, each m (omega arith)));
+      juniors_first = λ m h none some a l.
+          juniors_first amounts.estate_cash amounts.estate_pledges amounts.own_share (at amounts.juniors.now) (at amounts.seniors.now) loss m h
+          (sym (part m h) ∙ none) (omega (arith, each m (omega arith))) a l
+          ∙ sym (part a l);
     }
   where
-    held : (accounts : Accounts) (a : ℕ) → a < 64 → at accounts.borne a ≤ 10000000000
-    held accounts a h = omega (arith, accounts.held a h, accounts.limited a h)
+    low : (accounts : Accounts) (a : ℕ) → borne_in accounts a ≤ 10000000000
+    low accounts a = let account = account_at accounts.each a in omega (arith, account.held, account.limited)

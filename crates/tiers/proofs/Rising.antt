@@ -1,16 +1,11 @@
 -- A tier whose accounts are charged within what each can bear, and as much in all as can be borne, has borne.
-use Rattle.std.proofs.Common.{◌≡◌, ℕ, ◌+◌, ◌-◌, ◌<◌, ◌≤◌, min, List, ap, arith}
+use Rattle.std.proofs.Common.{◌≡◌, ℕ, ◌+◌, ◌-◌, ◌<◌, ◌≤◌, min, List, arith}
 use Rattle.shares.specs.Sums.{total, at}
 use Rattle.shares.proofs.Totals.{total_plus, total_same}
 use Rattle.tiers.specs.Piles.{Bore}
 use Rattle.tiers.specs.Piles.Pile.{one}
-use Rattle.tiers.specs.Charging.{Rule, ChargedBy}
-use Rattle.tiers.specs.Laws.{ChargeWithin, ChargesWhole}
-use Rattle.tiers.specs.Tables.{left_of, tier_of}
-
--- Of the accounts below i, `row` has what `old` has and the charge; of the others it has what `old` has.
-abbrev pub RaisedTo : (ℕ → ℕ) → List ℕ → ℕ → List ℕ → Type 0
-RaisedTo charge old i row = ((a : ℕ) → a < i → at row a ≡ at old a + charge a) × ((a : ℕ) → i ≤ a → at row a ≡ at old a)
+use Rattle.tiers.specs.Charging.{Rule, Charged, ChargedBy}
+use Rattle.tiers.specs.Laws.{Lawful}
 
 pub bore_by : (charge left borne left' borne' : ℕ → ℕ) (x back : ℕ) →
     ((a : ℕ) → a < 64 → charge a ≤ left a) →
@@ -29,20 +24,10 @@ bore_by charge left borne left' borne' x back within rises falls sum rest =
       answers = rest;
     }
 
--- A rule by which a tier may charge.
-pub record Lawful (rule : Rule) : Type 0 where
-  pub within : ChargeWithin rule
-  pub whole : ChargesWhole rule
-
--- A table whose amounts borne rise by a row of charges, each by the rule.
-pub charged_by : (rule : Rule) → Lawful rule → (capacity borne capacity' borne' row : List ℕ) (x : ℕ) →
-    capacity' ≡ capacity →
-    ((a : ℕ) → a < 64 → at borne' a ≡ at borne a + at row a) →
-    ((a : ℕ) → a < 64 → at row a ≡ rule (left_of capacity borne) x a) →
-    ChargedBy rule (tier_of capacity borne) x (tier_of capacity' borne')
-charged_by rule law capacity borne capacity' borne' row x kept rises is a h =
-    let same = ap (λ (xs : List ℕ). at xs a) kept in
-    (omega (arith, rises a h, is a h), omega (arith, rises a h, is a h, law.within (left_of capacity borne) x a))
+-- What is charged by a row is charged by the rule that the row follows.
+pub charged_by : (rule : Rule) (left borne left' borne' : ℕ → ℕ) (row : List ℕ) (x : ℕ) → Charged left borne (at row) left' borne' →
+    ((a : ℕ) → a < 64 → at row a ≡ rule left x a) → ChargedBy rule (one left borne) x (one left' borne')
+charged_by rule left borne left' borne' row x charged is a h = (omega (arith, charged a h, is a h), omega (arith, charged a h, is a h))
 
 -- It has borne.
 pub bore_by_rule : (rule : Rule) → Lawful rule → (left borne left' borne' : ℕ → ℕ) (x back : ℕ) →

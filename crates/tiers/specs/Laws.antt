@@ -28,6 +28,11 @@ ChargeWithin rule = (left : ℕ → ℕ) (amount a : ℕ) → rule left amount a
 abbrev pub ChargesWhole : Rule → Type 0
 ChargesWhole rule = (left : ℕ → ℕ) (amount : ℕ) → total 64 (rule left amount) ≡ min amount (total 64 left)
 
+-- A rule by which a tier may charge.
+pub record Lawful (rule : Rule) : Type 0 where
+  pub within : ChargeWithin rule
+  pub whole : ChargesWhole rule
+
 -- An account is charged in turn only if each before it is charged to its end.
 abbrev pub InTurnOrder : Type 0
 InTurnOrder = (left : ℕ → ℕ) (amount a b : ℕ) → a < b → 0 < in_turn left amount b → in_turn left amount a ≡ left a

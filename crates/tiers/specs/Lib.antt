@@ -7,3 +7,4 @@ pub mod Figures
 pub mod Tables
 pub mod Meanings
 pub mod OwnTiers
+pub mod Rules

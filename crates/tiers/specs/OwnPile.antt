@@ -120,14 +120,14 @@ pub record OwnBore (left borne : Rows) (loss : ℕ) (left' borne' : Rows) (back 
       (m : ℕ) → m < 64 → left.estate m ≡ 0 → left.own_share m ≡ 0 → left.juniors m ≡ 0 →
       0 < charged (four_tiers left borne) (four_tiers left' borne') m → (a : ℕ) → a < 64 → left'.juniors a ≡ 0
 
--- What a loss charges each account of our own pile, made new for it of these amounts.
-pub record OwnCharged (cash pledges share : ℕ) (juniors seniors : ℕ → ℕ) (loss : ℕ) (charges : List ℕ) (back : ℕ) : Type 0 where
+-- What a loss charges each account of our own pile, made new for it of these capacities.
+pub record OwnCharged (capacity : Rows) (loss : ℕ) (charges : List ℕ) (back : ℕ) : Type 0 where
   pub wide : length charges ≡ 64
-  pub each : (a : ℕ) → a < 64 → at charges a ≡ own_charge (own_rows cash pledges share juniors seniors) loss a
-  pub answers : back ≡ unborne (own_rows cash pledges share juniors seniors) loss
+  pub each : (a : ℕ) → a < 64 → at charges a ≡ own_charge capacity loss a
+  pub answers : back ≡ unborne capacity loss
   -- charges and what comes back make the loss
   pub whole : total 64 (at charges) + back ≡ loss
   -- a member with no junior part is charged only if every junior part is spent
   pub juniors_first :
-      (m : ℕ) → m < 60 → juniors m ≡ 0 → 0 < at charges m →
-      (a : ℕ) → a < 60 → (own_charges (own_rows cash pledges share juniors seniors) loss).juniors a ≡ juniors a
+      (m : ℕ) → m < 60 → capacity.juniors m ≡ 0 → 0 < at charges m →
+      (a : ℕ) → a < 60 → (own_charges capacity loss).juniors a ≡ capacity.juniors a

@@ -1,6 +1,7 @@
 -- What a pile of tiers means, what it answers, and what bearing an amount makes of it.
 use Rattle.std.specs.Prelude.{◌≡◌, ℕ, ◌+◌, ◌-◌, ◌<◌, ◌≤◌, min, Some, None, Option}
 use Rattle.shares.specs.Sums.{total}
+use Rattle.tiers.specs.declared.tier.Balance.{Balance}
 
 -- One tier, by what each of its accounts 0 to 63 can still bear and what each has borne; or one pile set above another.
 pub data Pile : Type 0 where
@@ -39,9 +40,9 @@ abbrev pub told : ℕ → ℕ
 told amount = min amount 1000000000000000
 
 -- The answer about an account: what it can still bear and what it has borne; absence past account 63.
-abbrev pub Tells : Pile → ℕ → Option (ℕ × ℕ) → Type 0
+abbrev pub Tells : Pile → ℕ → Option Balance → Type 0
 Tells p a None = 64 ≤ a
-Tells p a (Some both) = (a < 64) × (both.0 ≡ told (left_at p a)) × (both.1 ≡ told (borne_at p a))
+Tells p a (Some balance) = (a < 64) × (balance.left ≡ told (left_at p a)) × (balance.borne ≡ told (borne_at p a))
 
 -- ---- bearing
 

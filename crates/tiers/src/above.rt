@@ -3,7 +3,7 @@ ghost use Rattle.std.specs.Prelude.{◌≡◌, ◌+◌};
 ghost use Rattle.tiers.specs.Piles.{told};
 ghost use Rattle.tiers.specs.Piles.Pile.{above};
 
-use crate::tier::{MOST_TOLD, Tier};
+use crate::tier::{Balance, MOST_TOLD, Tier};
 
 // Two tiers that are one: account by account the sum of both. The upper bears first, the lower what comes back.
 #[derive(Drop)]
@@ -22,13 +22,13 @@ fn told_together(upper: u64, lower: u64) -> u64
 impl<U: Tier, L: Tier> Tier for Above<U, L> {
     ghost meaning = { λ s. above (U.Tier.meaning s.upper) (L.Tier.meaning s.lower) };
 
-    fn account(&self, number: u8) -> Option<(u64, u64)> {
-        let (upper_left, upper_borne) = self.upper.account(number)?;
-        let (lower_left, lower_borne) = self.lower.account(number)?;
-        Some((
-            told_together(upper_left, lower_left),
-            told_together(upper_borne, lower_borne),
-        ))
+    fn account(&self, number: u8) -> Option<Balance> {
+        let upper = self.upper.account(number)?;
+        let lower = self.lower.account(number)?;
+        Some(Balance {
+            left: told_together(upper.left, lower.left),
+            borne: told_together(upper.borne, lower.borne),
+        })
     }
 
     fn whole(&self) -> u64 {

@@ -1,82 +1,114 @@
 // A plain table of the 64 accounts of a tier.
-ghost use Rattle.std.specs.Prelude.{◌≡◌, ℕ, ◌+◌, ◌<◌, ◌≤◌, length, MatchResult};
+ghost use Rattle.std.specs.Prelude.{◌≡◌, ℕ, ◌+◌, ◌-◌, ◌<◌, ◌≤◌, length, MatchResult};
+ghost use Rattle.rules.specs.declared.refusal.Refusal.TheVariants.{OutsideLimits};
 ghost use Rattle.shares.specs.Sums.{total, at};
+ghost use Rattle.tiers.specs.Charging.{Charged};
 ghost use Rattle.tiers.specs.Piles.{Tells};
-ghost use Rattle.tiers.specs.Tables.{left_of, tier_of, Limited, Held, Opened, Refused};
 
-use crate::tier::nothing;
+use crate::tier::Balance;
 use rules::refusal::Refusal;
+use shares::rows::sum_of;
 
-// What each account can bear, and what it has borne. None is borne past its capacity.
+// What an account can bear in all, and what it has borne. It is never borne past its capacity.
+#[derive(Clone, Copy, PartialEq, Eq, Debug)]
+pub struct Account {
+    capacity: u64,
+    borne: u64,
+    ghost limited: { capacity ≤ 10000000000 },
+    ghost held: { borne ≤ capacity },
+}
+
+impl Account {
+    // An account with nothing borne, if its capacity is not above the limit.
+    fn new(capacity: u64, limit: u64) -> Result<Account, Refusal>
+        requires { limit ≤ 10000000000 }
+        ensures { MatchResult result (λ t. (capacity ≤ limit) × (t.capacity ≡ capacity) × (t.borne ≡ 0)) (λ cause. (limit < capacity) × (cause ≡ OutsideLimits)) }
+    {
+        if capacity > limit {
+            return Err(Refusal::OutsideLimits);
+        }
+        Ok(Account { capacity, borne: 0 })
+    }
+
+    // What it can still bear.
+    fn left(&self) -> u64
+        ensures { result ≡ self.now.capacity - self.now.borne }
+    {
+        self.capacity - self.borne
+    }
+
+    // Bears an amount within that.
+    fn charge(&mut self, amount: u64)
+        requires { amount ≤ self.old.capacity - self.old.borne }
+        ensures capacity { self.new.capacity ≡ self.old.capacity }
+        ensures borne { self.new.borne ≡ self.old.borne + amount }
+    {
+        self.borne += amount;
+    }
+}
+
 #[derive(Drop)]
 pub struct Accounts {
-    capacity: [u64; 64],
-    borne: [u64; 64],
-    ghost wide: { (length capacity ≡ 64) × (length borne ≡ 64) },
-    ghost limited: { Limited 10000000000 capacity },
-    ghost held: { Held capacity borne },
+    each: [Account; 64],
+    ghost wide: { length each ≡ 64 },
 }
 
 impl Accounts {
+    ghost use Rattle.tiers.specs.Tables.{borne_of, left_of, tier_of, Opened, Refused};
+
     // A table with nothing borne, if no capacity is above the limit.
     pub(crate) fn new(capacity: [u64; 64], limit: u64) -> Result<Accounts, Refusal>
         requires { limit ≤ 10000000000 }
-        ensures { MatchResult result (λ t. Opened limit capacity t.capacity t.borne) (Refused limit capacity) }
+        ensures { MatchResult result (λ t. Opened limit capacity t.each) (Refused limit capacity) }
     {
-        for i in 0..64 {
-            if capacity[i] > limit {
-                return Err(Refusal::OutsideLimits);
-            }
+        let mut each = [Account {
+            capacity: 0,
+            borne: 0,
+        }; 64];
+        // Not `try_map`: what it promises leaves open which limit each call of the closure took.
+        for (a, account) in each.iter_mut().enumerate() {
+            *account = Account::new(capacity[a], limit)?;
         }
-        let borne = nothing();
-        Ok(Accounts { capacity, borne })
+        Ok(Accounts { each })
     }
 
     // What an account can still bear and what it has borne.
-    pub(crate) fn account(&self, number: u8) -> Option<(u64, u64)>
-        ensures { Tells (tier_of self.now.capacity self.now.borne) number result }
+    pub(crate) fn account(&self, number: u8) -> Option<Balance>
+        ensures { Tells (tier_of self.now.each) number result }
     {
-        if number >= 64 {
-            return None;
-        }
-        let a = number as usize;
-        Some((self.capacity[a] - self.borne[a], self.borne[a]))
+        let account = self.each.get(usize::from(number))?;
+        Some(Balance {
+            left: account.left(),
+            borne: account.borne,
+        })
     }
 
     // What each account can still bear.
     pub(crate) fn left(&self) -> [u64; 64]
         ensures wide { length result ≡ 64 }
-        ensures each { (a : ℕ) → a < 64 → at result a ≡ left_of self.now.capacity self.now.borne a }
+        ensures each { (a : ℕ) → a < 64 → at result a ≡ left_of self.now.each a }
+        ensures sum { total 64 (at result) ≡ total 64 (left_of self.now.each) }
+        ensures small { total 64 (at result) ≤ 640000000000 }
     {
-        let mut left = [0; 64];
-        for i in 0..64 {
-            left[i] = self.capacity[i] - self.borne[i];
-        }
-        left
+        self.each.map(|account| account.left())
     }
 
     // What is left in all.
     pub(crate) fn left_in_all(&self) -> u64
-        ensures sum { result ≡ total 64 (left_of self.now.capacity self.now.borne) }
+        ensures sum { result ≡ total 64 (left_of self.now.each) }
         ensures small { result ≤ 640000000000 }
     {
-        let mut sum = 0;
-        for i in 0..64 {
-            sum += self.capacity[i] - self.borne[i];
-        }
-        sum
+        sum_of(&self.left())
     }
 
     // Charges each account what the row says, which is within what it can still bear.
     pub(crate) fn charge(&mut self, charges: &[u64; 64])
-        requires { (a : ℕ) → a < 64 → at charges.now a ≤ left_of self.old.capacity self.old.borne a }
-        ensures capacity { self.new.capacity ≡ self.old.capacity }
-        ensures borne { (a : ℕ) → a < 64 → at self.new.borne a ≡ at self.old.borne a + at charges.now a }
+        requires { (a : ℕ) → a < 64 → at charges.now a ≤ left_of self.old.each a }
+        ensures { Charged (left_of self.old.each) (borne_of self.old.each) (at charges.now) (left_of self.new.each) (borne_of self.new.each) }
     {
-        let mut borne = self.borne;
-        for i in 0..64 {
-            borne[i] += charges[i];
+        // The proof does not close over `zip`.
+        for (a, account) in self.each.iter_mut().enumerate() {
+            account.charge(charges[a]);
         }
-        self.borne = borne;
     }
 }

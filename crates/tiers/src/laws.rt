@@ -5,39 +5,31 @@ ghost use Rattle.tiers.specs.Laws.{AgainATier, Waterfall, ToldOnce, ChargeWithin
 ghost use Rattle.tiers.specs.Laws.{OwnPileBears, OwnChargeIs, JuniorsFirst};
 
 // Of every pile, whichever accounts its tiers charge.
-pub fn pile_laws_hold() -> u8
+pub fn pile_laws_hold()
     ensures again { AgainATier }
     ensures waterfall { Waterfall }
     ensures told { ToldOnce }
-{
-    0
-}
+{}
 
 // Of charging in turn and pro rata.
-pub fn charging_laws_hold() -> u8
+pub fn charging_laws_hold()
     ensures in_turn_within { ChargeWithin in_turn }
     ensures in_turn_whole { ChargesWhole in_turn }
     ensures in_turn_order { InTurnOrder }
     ensures pro_rata_within { ChargeWithin pro_rata }
     ensures pro_rata_whole { ChargesWhole pro_rata }
-{
-    0
-}
+{}
 
 // Of our own pile.
-pub fn own_pile_laws_hold() -> u8
+pub fn own_pile_laws_hold()
     ensures bears { OwnPileBears }
     ensures charge { OwnChargeIs }
     ensures juniors_first { JuniorsFirst }
-{
-    0
-}
+{}
 
 // The figures of the worked default.
-pub fn figures_hold() -> u8
+pub fn figures_hold()
     ensures charges { WorkedCharges }
     ensures by_tier { WorkedTiers }
     ensures edge { WorkedEdge }
-{
-    0
-}
+{}

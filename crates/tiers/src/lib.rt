@@ -7,5 +7,6 @@ pub mod in_turn;
 pub mod laws;
 pub mod own;
 pub mod pro_rata;
+pub mod ruled;
 pub mod tier;
 pub mod waterfall;

@@ -19,6 +19,7 @@ pub fn bear_losses<P: Tier>(pile: &mut P, losses: &[u64]) -> u128
     ensures each { BearsEach (P.meaning pile.old) losses.now (P.meaning pile.new) result }
     ensures settled { Settled (P.meaning pile.old) (total (length losses.now) (at losses.now)) (P.meaning pile.new) result }
 {
+    // `From` in place of the `as` below leaves the loop's invariant open.
     let mut unborne = 0;
     for loss in losses {
         unborne += pile.bear(*loss) as u128;

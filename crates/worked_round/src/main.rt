@@ -1,6 +1,8 @@
 // Strikes the rounds of the worked figures and prints what comes of them.
 #![tactic(auto)]
 
+mod stop;
+
 use auction::cuts::{cut_margin, cut_reference};
 use auction::fractions::{PackageFractions, Weighed};
 use auction::marks::mark;
@@ -10,11 +12,29 @@ use auction::shortness::{split, total_fraction};
 use rules::bid::Bid;
 use rules::member::Member;
 use rules::name::Name;
-use std::io;
+use std::{array, io, str};
+use stop::{Missing, Stop};
 
-const NAMES: [&str; 3] = ["ASHGROVE", "BIRCHEND", "COLDWELL"];
-
-const CONTRIBUTIONS: [u64; 3] = [600, 300, 100];
+const MEMBERS: [Member; 3] = [
+    Member {
+        name: Name {
+            bytes: *b"ASHGROVE",
+        },
+        contribution: 600,
+    },
+    Member {
+        name: Name {
+            bytes: *b"BIRCHEND",
+        },
+        contribution: 300,
+    },
+    Member {
+        name: Name {
+            bytes: *b"COLDWELL",
+        },
+        contribution: 100,
+    },
+];
 
 const MARGIN: u64 = 1_000;
 
@@ -30,29 +50,30 @@ fn bid(member: u8, size: u32, price: i64) -> Bid {
     }
 }
 
-fn print_row(rt: &HostRuntime, what: &str, row: &[u64; 64]) -> io::Result<()> {
-    for a in 0..3 {
-        let name = NAMES[a];
-        let number = row[a];
-        println!(rt; "{name} {what} {number}")?;
+// A member's name as text.
+fn text(member: &Member) -> Result<&str, Missing> {
+    str::from_utf8(&member.name.bytes).map_err(|_| Missing::Name)
+}
+
+fn print_minimums(rt: &HostRuntime, minimums: &[u64; 64]) -> Result<(), Stop> {
+    for (member, minimum) in MEMBERS.iter().zip(minimums) {
+        let name = text(member)?;
+        println!(rt; "{name} minimum {minimum}")?;
     }
     Ok(())
 }
 
 // Divides an offer, and prints the mark, the givings, the price, and what each member lacks, gets and pays.
-fn print_division(rt: &HostRuntime, round: &Round, offer: u64) -> io::Result<()> {
-    let Some(division) = round.divide(offer) else {
-        return println!(rt; "no division");
-    };
-    let mark = mark(round.bids, round.reference);
-    println!(rt; "mark {mark}")?;
+fn print_division(rt: &HostRuntime, round: &Round, offer: u64) -> Result<(), Stop> {
+    let division = round.divide(offer).ok_or(Missing::Division)?;
+    println!(rt; "mark {}", mark(round.bids, round.reference))?;
     for given in division.givings.iter().take(round.bids.len()) {
         println!(rt; "given {given}")?;
     }
-    let price = division.price;
-    println!(rt; "price {price}")?;
-    for a in 0..3 {
-        let name = NAMES[a];
+    println!(rt; "price {}", division.price)?;
+    // One number reads four rows: a zip of all five is no plainer.
+    for (a, member) in MEMBERS.iter().enumerate() {
+        let name = text(member)?;
         let short = division.shortfalls[a];
         let covered = division.shortfall_parts[a];
         let parts = division.allotments[a];
@@ -63,22 +84,16 @@ fn print_division(rt: &HostRuntime, round: &Round, offer: u64) -> io::Result<()>
 }
 
 // Prints each member's total fraction, with one package, and the parts of its contribution.
-fn print_parts(rt: &HostRuntime, fractions: &[PackageFractions; 3]) -> io::Result<()> {
-    for a in 0..3 {
-        let Some(fraction) = fractions[a].fraction() else {
-            return println!(rt; "no fraction");
-        };
+fn print_parts(rt: &HostRuntime, fractions: &[PackageFractions; 3]) -> Result<(), Stop> {
+    for (member, fractions) in MEMBERS.iter().zip(fractions) {
+        let name = text(member)?;
+        let fraction = fractions.fraction().ok_or(Missing::Fraction)?;
         let packages = [Weighed {
             margin: MARGIN,
             fraction,
         }];
-        let Some(total) = total_fraction(&packages) else {
-            return println!(rt; "no total");
-        };
-        let Some(parts) = split(CONTRIBUTIONS[a], total) else {
-            return println!(rt; "no parts");
-        };
-        let name = NAMES[a];
+        let total = total_fraction(&packages).ok_or(Missing::Total)?;
+        let parts = split(member.contribution, total).ok_or(Missing::Parts)?;
         let junior = parts.junior;
         let senior = parts.senior;
         println!(rt; "{name} package {fraction} total {total} junior {junior} senior {senior}")?;
@@ -91,113 +106,76 @@ fn first_round<'a>(bids: &'a [Bid], minimums: &[u64; 64]) -> Round<'a> {
     Round {
         bids,
         minimums: *minimums,
-        members: 3,
+        members: MEMBERS.len(),
         reference: REFERENCE,
         margin: MARGIN,
     }
 }
 
 // The worked default with a third bid, a residual, and the second round without bids.
-fn print_residual(rt: &HostRuntime, first: &Round) -> io::Result<()> {
+fn print_residual(rt: &HostRuntime, first: &Round) -> Result<(), Stop> {
     print_division(rt, first, 1_000_000)?;
     println!(rt; "-- divided anew")?;
     print_division(rt, first, 1_000_000 - RESIDUAL)?;
-    let Some(minimums) = first.second_minimums(RESIDUAL) else {
-        return println!(rt; "no second minimums");
-    };
-    let Some(margin) = cut_margin(MARGIN, RESIDUAL) else {
-        return println!(rt; "no margin");
-    };
-    let Some(reference) = cut_reference(REFERENCE, RESIDUAL) else {
-        return println!(rt; "no reference");
-    };
+    let minimums = first
+        .second_minimums(RESIDUAL)
+        .ok_or(Missing::SecondMinimums)?;
+    let margin = cut_margin(MARGIN, RESIDUAL).ok_or(Missing::Margin)?;
+    let reference = cut_reference(REFERENCE, RESIDUAL).ok_or(Missing::Reference)?;
     println!(rt; "-- second round: margin {margin}, reference {reference}")?;
-    print_row(rt, "minimum", &minimums)?;
+    print_minimums(rt, &minimums)?;
     let second = Round {
         bids: &[],
         minimums,
-        members: 3,
+        members: MEMBERS.len(),
         reference,
         margin,
     };
     print_division(rt, &second, 1_000_000)?;
-    let (Some(f), Some(s)) = (first.fractions(), second.fractions()) else {
-        return println!(rt; "no fractions");
-    };
-    print_parts(
-        rt,
-        &[
-            in_both(f[0], s[0]),
-            in_both(f[1], s[1]),
-            in_both(f[2], s[2]),
-        ],
-    )
-}
-
-fn in_both(first: u64, second: u64) -> PackageFractions {
-    PackageFractions::WithResidual {
-        first,
+    let f = first.fractions().ok_or(Missing::Fractions)?;
+    let s = second.fractions().ok_or(Missing::Fractions)?;
+    let both = array::from_fn(|a| PackageFractions::WithResidual {
+        first: f[a],
         residual: RESIDUAL,
-        second,
-    }
+        second: s[a],
+    });
+    print_parts(rt, &both)
 }
 
-fn main(rt: HostRuntime) -> io::Result<()> {
-    let members = [
-        Member {
-            name: Name {
-                bytes: *b"ASHGROVE",
-            },
-            contribution: CONTRIBUTIONS[0],
-        },
-        Member {
-            name: Name {
-                bytes: *b"BIRCHEND",
-            },
-            contribution: CONTRIBUTIONS[1],
-        },
-        Member {
-            name: Name {
-                bytes: *b"COLDWELL",
-            },
-            contribution: CONTRIBUTIONS[2],
-        },
-    ];
-    let Some(least) = minimums(&members, 1_250, 0) else {
-        return println!(rt; "no minimums");
-    };
-    print_row(&rt, "minimum", &least)?;
-    println!(rt; "-- the worked default")?;
+// The worked default, and the fractions after it.
+fn print_default(rt: &HostRuntime, least: &[u64; 64]) -> Result<(), Stop> {
     let bids = [bid(0, 750_000, -4_000), bid(1, 375_000, -4_500)];
-    let worked = first_round(&bids, &least);
-    print_division(&rt, &worked, 1_000_000)?;
-    if let Some(f) = worked.fractions() {
-        print_parts(
-            &rt,
-            &[
-                PackageFractions::FirstOnly(f[0]),
-                PackageFractions::FirstOnly(f[1]),
-                PackageFractions::FirstOnly(f[2]),
-            ],
-        )?;
-    }
+    let worked = first_round(&bids, least);
+    print_division(rt, &worked, 1_000_000)?;
+    let f = worked.fractions().ok_or(Missing::Fractions)?;
+    print_parts(rt, &array::from_fn(|a| PackageFractions::FirstOnly(f[a])))
+}
+
+// All rounds of the worked figures.
+fn print_all(rt: &HostRuntime) -> Result<(), Stop> {
+    let least = minimums(&MEMBERS, 1_250, 0).ok_or(Missing::Minimums)?;
+    print_minimums(rt, &least)?;
+    println!(rt; "-- the worked default")?;
+    print_default(rt, &least)?;
     println!(rt; "-- one bid at the margin")?;
-    print_division(
-        &rt,
-        &first_round(&[bid(0, 750_000, -6_000)], &least),
-        1_000_000,
-    )?;
+    let at = [bid(0, 750_000, -6_000)];
+    print_division(rt, &first_round(&at, &least), 1_000_000)?;
     println!(rt; "-- one bid past the margin")?;
-    print_division(
-        &rt,
-        &first_round(&[bid(0, 750_000, -6_001)], &least),
-        1_000_000,
-    )?;
+    let past = [bid(0, 750_000, -6_001)];
+    print_division(rt, &first_round(&past, &least), 1_000_000)?;
     println!(rt; "-- before a residual")?;
     let bids = [
         bid(2, 300_000, -3_000),
         bid(0, 750_000, -4_000),
         bid(1, 375_000, -4_500),
     ];
-    print_residual(&rt, &first_round(&bids, &least))
+    print_residual(rt, &first_round(&bids, &least))
+}
+
+fn main(rt: HostRuntime) -> io::Result<()> {
+    match print_all(&rt) {
+        Ok(()) => Ok(()),
+        Err(Stop::Missing(what)) => println!(rt; "no {what}"),
+        Err(Stop::Print(error)) => Err(error),
+    }
 }

@@ -1,10 +1,10 @@
-use Rattle.std.proofs.Common.{◌∙◌, arith, length-set}
-use Rattle.bearing.proofs.Telling.{told_more}
+use Rattle.std.proofs.Common.{◌<◌, rules, Some}
+use Rattle.shares.proofs.Turns.{made}
+use Rattle.tiers.specs.Piles.{Tells}
+use Rattle.bearing.specs.Example.{untold}
 use Rattle.bearing.proofs.told_accounts.Goals as goal
 
-pub loop-number-preserved : goal.loop-number-preserved
-loop-number-preserved g c = (
-  length-set _ _ _ ∙ c.loop-number.invariant.0,
-  told_more (g.P.Tier.meaning c.args.pile.now) c.loop-number.accounts c.loop-number.number c.told_account.result
-      (omega arith) (c.told_account.ensures (omega arith)) c.loop-number.invariant.1,
-)
+pub returns : goal.returns
+returns g c =
+    λ a h.
+    made _ (λ x y. x < 64 → Tells (g.P.Tier.meaning c.args.pile.now) x (Some y)) _ (λ x y q call. search rules) _ _ c.from_fn.ensures.items a untold h h

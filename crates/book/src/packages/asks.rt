@@ -1,13 +1,16 @@
 // What a package answers of itself and of its latest round.
 ghost use Rattle.std.specs.Prelude.{◌≡◌, length};
 ghost use Rattle.book.specs.HeldPackages.{package_of};
+ghost use Rattle.book.specs.HeldRounds.{bidding_of, round_held};
 ghost use Rattle.calls.specs.Answers.{package_terms};
 ghost use Rattle.calls.specs.Held.{is_open};
 ghost use Rattle.calls.specs.Packages.{latest, sizes_of};
 ghost use Rattle.std.specs.Option.{option_map};
 
 use crate::packages::Package;
+use crate::round::BookRound;
 use calls::answers::PackageTerms;
+use calls::round_number::RoundNumber;
 
 impl Package {
     pub fn terms(&self) -> PackageTerms
@@ -22,27 +25,25 @@ impl Package {
         }
     }
 
-    // Whether a round of it is open.
+    // Whether a round of it is open. Only the latest can be.
     pub fn is_open(&self) -> bool
         ensures { result ≡ is_open (package_of self.now) }
     {
-        if !self.first.is_struck() {
-            return true;
-        }
-        match self.residual {
-            None => false,
-            Some(_) => !self.second.is_struck(),
-        }
+        !self.is_latest_struck()
+    }
+
+    // The round that opened last.
+    fn latest(&self) -> &BookRound
+        ensures { bidding_of (round_held result.now) ≡ latest (package_of self.now) }
+    {
+        self.round(RoundNumber::Second).unwrap_or(&self.first)
     }
 
     // Whether the round that opened last is struck.
     pub fn is_latest_struck(&self) -> bool
         ensures { result ≡ (latest (package_of self.now)).struck }
     {
-        match self.residual {
-            None => self.first.is_struck(),
-            Some(_) => self.second.is_struck(),
-        }
+        self.latest().is_struck()
     }
 
     pub fn is_first_struck(&self) -> bool
@@ -62,19 +63,13 @@ impl Package {
     pub fn latest_len(&self) -> usize
         ensures { result ≡ length (latest (package_of self.now)).bids }
     {
-        match self.residual {
-            None => self.first.len(),
-            Some(_) => self.second.len(),
-        }
+        self.latest().len()
     }
 
     // The sizes of a member's bids in the latest round together.
     pub fn latest_sizes_of(&self, member: u8) -> u64
         ensures { result ≡ sizes_of member (latest (package_of self.now)).bids }
     {
-        match self.residual {
-            None => self.first.sizes_of(member),
-            Some(_) => self.second.sizes_of(member),
-        }
+        self.latest().sizes_of(member)
     }
 }

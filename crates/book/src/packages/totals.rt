@@ -1,5 +1,5 @@
 // What the rounds of a package come to.
-ghost use Rattle.std.specs.Prelude.{◌≡◌, ◌<◌, false};
+ghost use Rattle.std.specs.Prelude.{◌≡◌, ◌<◌, ◌≤◌, false, MatchOption};
 ghost use Rattle.auction.specs.Shortness.{InMillionths, OfRounds};
 ghost use Rattle.book.specs.Brought.{brought_so_far, fraction_held, over_rounds, rounds_held};
 ghost use Rattle.book.specs.HeldPackages.{package_of, terms_of};
@@ -27,26 +27,21 @@ impl Package {
         if self.is_open() {
             return None;
         }
-        if member >= self.first.member_count() {
-            return None;
-        }
-        self.fractions(member).fraction()
+        self.fractions(member)?.fraction()
     }
 
     // The fractions of a member in its rounds.
-    fn fractions(&self, member: usize) -> PackageFractions
-        requires { member < (terms_of self.now).members }
-        ensures of { OfRounds result (rounds_held self.now) member }
-        ensures low { InMillionths result }
+    fn fractions(&self, member: usize) -> Option<PackageFractions>
+        ensures { MatchOption result ((terms_of self.now).members ≤ member) (λ f. (member < (terms_of self.now).members) × OfRounds f (rounds_held self.now) member × InMillionths f) }
     {
-        let first = self.first.fraction(member);
-        match self.residual {
+        let first = self.first.fraction(member)?;
+        Some(match self.residual {
             None => PackageFractions::FirstOnly(first),
             Some(parts) => PackageFractions::WithResidual {
                 first,
-                residual: parts as u64,
-                second: self.second.fraction(member),
+                residual: u64::from(parts),
+                second: self.second.fraction(member)?,
             },
-        }
+        })
     }
 }

@@ -1,9 +1,8 @@
 // What a round answers, open or struck.
-ghost use Rattle.std.specs.Prelude.{◌≡◌, ◌≤◌, length, ◌==◌};
+ghost use Rattle.std.specs.Prelude.{◌≡◌, ◌≤◌, length, sum_by, filter, ◌==◌};
 ghost use Rattle.book.specs.HeldRounds.{round_held};
 ghost use Rattle.calls.specs.Answers.{bid_of, minimum_of, round_terms};
 ghost use Rattle.calls.specs.Packages.{sizes_of};
-ghost use Rattle.rules.specs.Amounts.{when};
 ghost use Rattle.std.specs.Option.{option_map};
 
 use crate::round::BookRound;
@@ -14,7 +13,7 @@ impl BookRound {
     pub(crate) fn is_struck(&self) -> bool
         ensures { result ≡ (round_held self.now).struck }
     {
-        self.struck
+        self.division.is_some()
     }
 
     // How many bids it has.
@@ -24,31 +23,21 @@ impl BookRound {
         self.bids.len()
     }
 
-    // How many members it has.
-    pub(crate) fn member_count(&self) -> usize
-        ensures { result ≡ (round_held self.now).round.members }
-    {
-        self.members
-    }
-
     pub(crate) fn terms(&self) -> RoundTerms
         ensures { result ≡ round_terms (round_held self.now) }
     {
         RoundTerms {
-            struck: self.struck,
+            struck: self.is_struck(),
             offer: self.offer,
-            margin: self.margin,
-            reference: self.reference,
+            margin: self.terms.margin,
+            reference: self.terms.reference,
         }
     }
 
     pub(crate) fn minimum(&self, member: usize) -> Option<u64>
         ensures { result ≡ minimum_of (round_held self.now) member }
     {
-        if member >= self.members {
-            return None;
-        }
-        Some(self.minimums[member])
+        self.terms.minimum(member)
     }
 
     // The bid at a place in rank order.
@@ -62,23 +51,17 @@ impl BookRound {
     pub(crate) fn sizes_of(&self, member: u8) -> u64
         ensures { result ≡ sizes_of member (round_held self.now).round.bids }
     {
-        let bids = self.bids.as_slice();
-        let mut sum = 0;
-        for bid in bids {
-            sum += size_if_of(bid, member);
-        }
-        sum
+        sizes_of(self.bids.as_slice(), member)
     }
 }
 
-// The size of a bid if it is of this member, else 0.
-fn size_if_of(bid: &Bid, member: u8) -> u64
-    ensures is { result ≡ when (bid.now.member == member) bid.now.size }
-    ensures small { result ≤ 4294967295 }
+// The sizes of those of a few bids that are of this member.
+fn sizes_of(bids: &[Bid], member: u8) -> u64
+    requires { length bids.now ≤ 96 }
+    ensures { result ≡ sum_by (λ b. b.size) (filter (λ b. b.member == member) bids.now) }
 {
-    if bid.member == member {
-        bid.size as u64
-    } else {
-        0
-    }
+    bids.iter()
+        .filter(|bid| bid.member == member)
+        .map(|bid| u64::from(bid.size))
+        .sum()
 }

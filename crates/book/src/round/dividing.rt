@@ -1,12 +1,10 @@
 // How a round is divided.
 ghost use Rattle.std.specs.Prelude.{◌≡◌, ◌≤◌};
-ghost use Rattle.auction.specs.Divisions.{Divided};
 ghost use Rattle.auction.specs.Ruled.{IsOrderly, ruled};
 ghost use Rattle.book.specs.HeldRounds.{divided_at, round_held};
 ghost use Rattle.rules.specs.Minimums.{all_parts};
 
 use crate::round::BookRound;
-use auction::division::Division;
 use auction::round::Round;
 
 impl BookRound {
@@ -17,21 +15,10 @@ impl BookRound {
     {
         Round {
             bids: self.bids.as_slice(),
-            minimums: self.minimums,
-            members: self.members,
-            reference: self.reference,
-            margin: self.margin,
-        }
-    }
-
-    // How an offer is divided.
-    fn divided(&self, offer: u64) -> Division
-        requires { offer ≤ all_parts }
-        ensures { Divided (round_held self.now).round offer result }
-    {
-        match self.data().divide(offer) {
-            Some(division) => division,
-            None => unreachable(),
+            minimums: self.terms.minimums,
+            members: self.terms.members,
+            reference: self.terms.reference,
+            margin: self.terms.margin,
         }
     }
 
@@ -40,8 +27,7 @@ impl BookRound {
         requires { offer ≤ all_parts }
         ensures { round_held self.new ≡ divided_at offer (round_held self.old) }
     {
-        self.division = self.divided(offer);
+        self.division = self.data().divide(offer);
         self.offer = offer;
-        self.struck = true;
     }
 }

@@ -1,5 +1,5 @@
 // What a struck round answers.
-ghost use Rattle.std.specs.Prelude.{◌≡◌, ◌<◌, ◌≤◌};
+ghost use Rattle.std.specs.Prelude.{◌≡◌, ◌<◌, ◌≤◌, MatchOption};
 ghost use Rattle.book.specs.HeldRounds.{round_held};
 ghost use Rattle.calls.specs.Answers.{bid_result, member_result, round_prices};
 ghost use Rattle.rules.specs.Fractions.{round_fraction};
@@ -15,18 +15,16 @@ impl BookRound {
     fn mark(&self) -> i64
         ensures { result ≡ mark_from (round_held self.now).round.bids (round_held self.now).round.reference }
     {
-        mark(self.bids.as_slice(), self.reference)
+        mark(self.bids.as_slice(), self.terms.reference)
     }
 
     pub(crate) fn prices(&self) -> Option<RoundPrices>
         ensures { result ≡ round_prices (round_held self.now) }
     {
-        if !self.struck {
-            return None;
-        }
+        let division = self.division.as_ref()?;
         Some(RoundPrices {
             mark: self.mark(),
-            price: self.division.price,
+            price: division.price,
         })
     }
 
@@ -34,40 +32,33 @@ impl BookRound {
     pub(crate) fn bid_result(&self, place: usize) -> Option<BidResult>
         ensures { result ≡ bid_result (round_held self.now) place }
     {
-        let bids = self.bids.as_slice();
-        if !self.struck || place >= bids.len() {
-            return None;
-        }
+        let division = self.division.as_ref()?;
+        let bid = self.bids.as_slice().get(place)?;
         Some(BidResult {
-            is_market: is_market(&bids[place], self.mark(), self.margin),
-            giving: self.division.givings[place],
+            is_market: is_market(bid, self.mark(), self.terms.margin),
+            giving: division.givings[place],
         })
     }
 
     pub(crate) fn member_result(&self, member: usize) -> Option<MemberResult>
         ensures { result ≡ member_result (round_held self.now) member }
     {
-        if !self.struck || member >= self.members {
-            return None;
-        }
+        let division = self.division.as_ref()?;
+        let fraction = self.fraction(member)?;
         Some(MemberResult {
-            shortfall: self.division.shortfalls[member],
-            parts: self.division.allotments[member],
-            shortfall_parts: self.division.shortfall_parts[member],
-            transfer: self.division.transfers[member],
-            fraction: self.fraction(member),
+            shortfall: division.shortfalls[member],
+            parts: division.allotments[member],
+            shortfall_parts: division.shortfall_parts[member],
+            transfer: division.transfers[member],
+            fraction,
         })
     }
 
     // How far a member fell short, in millionths.
-    pub(crate) fn fraction(&self, member: usize) -> u64
-        requires { member < self.now.members }
-        ensures is { result ≡ round_fraction (round_held self.now).round member }
-        ensures low { result ≤ all_parts }
+    pub(crate) fn fraction(&self, member: usize) -> Option<u64>
+        ensures { MatchOption result ((round_held self.now).round.members ≤ member) (λ f. (member < (round_held self.now).round.members) × (f ≡ round_fraction (round_held self.now).round member) × (f ≤ all_parts)) }
     {
-        match self.data().fractions() {
-            Some(row) => row[member],
-            None => unreachable(),
-        }
+        let row = self.data().fractions().unwrap();
+        row[..self.terms.members].get(member).copied()
     }
 }

@@ -13,22 +13,21 @@ impl BookRound {
         ensures is { result ≡ brought_so_far (round_held self.now) }
         ensures small { unsigned_abs result ≤ 590295810358705651712 }
     {
-        if !self.struck {
-            return 0;
+        match &self.division {
+            None => 0,
+            Some(division) => sum_of(&division.transfers),
         }
-        sum_of(&self.division.transfers, self.members)
     }
 }
 
-// The sum of the first numbers of a row.
-fn sum_of(row: &[i64; 64], count: usize) -> i128
-    requires { count ≤ 64 }
-    ensures is { result ≡ total_z count (at_z row.now) }
+// The sum of a row.
+fn sum_of(row: &[i64; 64]) -> i128
+    ensures is { result ≡ total_z 64 (at_z row.now) }
     ensures small { unsigned_abs result ≤ 590295810358705651712 }
 {
     let mut sum: i128 = 0;
-    for a in 0..count {
-        sum += row[a] as i128;
+    for &number in row {
+        sum += i128::from(number);
     }
     sum
 }

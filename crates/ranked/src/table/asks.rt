@@ -1,5 +1,7 @@
 // What a table answers.
 ghost use Rattle.std.specs.Prelude.{◌≡◌, length};
+ghost use Rattle.std.specs.List.{position};
+ghost use Rattle.std.specs.Ordering.{is_eq};
 ghost use Rattle.ranked.specs.Order.{found, FirstLevel};
 ghost use Rattle.ranked.specs.Table.{listed};
 
@@ -25,11 +27,13 @@ impl<T: Rank + Drop> OrderedTable<T> {
         ensures value { result ≡ found T.ranks x.now (listed self.now) }
         ensures first { FirstLevel T.ranks x.now (listed self.now) result }
     {
-        for (i, y) in self.records.iter().enumerate() {
-            if x.rank(y).is_eq() {
-                return Some(i);
-            }
-        }
-        None
+        first_level(self.as_slice(), x)
     }
+}
+
+// The place of the first of some records that is level with `x`.
+fn first_level<T: Rank>(records: &[T], x: &T) -> Option<usize>
+    ensures { result ≡ position (λ y. is_eq (T.ranks x.now y)) records.now }
+{
+    records.iter().position(|y| x.rank(y).is_eq())
 }

@@ -1,5 +1,7 @@
 // How a table is made, and how a record arrives in it.
-ghost use Rattle.std.specs.Prelude.{◌≡◌, ◌<◌, ◌≤◌, List, [], length, IfOk, MatchOption};
+ghost use Rattle.std.specs.Prelude.{◌≡◌, not, ◌<◌, ◌≤◌, List, [], length, IfOk, MatchOption};
+ghost use Rattle.std.specs.List.{prefix_len};
+ghost use Rattle.std.specs.Ordering.{is_lt};
 ghost use Rattle.ranked.specs.Order.{behind, InOrder, Arrived, Keeps};
 ghost use Rattle.ranked.specs.Table.{listed};
 
@@ -20,12 +22,7 @@ impl<T: Rank + Drop> OrderedTable<T> {
     fn seat_of(&self, x: &T) -> usize
         ensures { result ≡ behind T.ranks x.now (listed self.now) }
     {
-        for (i, y) in self.records.iter().enumerate() {
-            if x.rank(y).is_lt() {
-                return i;
-            }
-        }
-        self.records.len()
+        ahead_of(x, self.as_slice())
     }
 
     // Puts `x` behind those that stand before it or level with it, and answers its place; `None` where the table is full.
@@ -51,9 +48,14 @@ impl<T: Rank + Drop> OrderedTable<T> {
     }
 
     // Whatever arrives, an empty table ends up with all of it in order of rank, level ones as they came.
-    pub fn keeps_order() -> u8
+    pub fn keeps_order()
         ensures { (xs : List T) → Keeps T.ranks xs }
-    {
-        0
-    }
+    {}
+}
+
+// How many records, from the first on, `x` does not stand before.
+fn ahead_of<T: Rank>(x: &T, records: &[T]) -> usize
+    ensures { result ≡ prefix_len (λ y. not (is_lt (T.ranks x.now y))) records.now }
+{
+    records.iter().take_while(|y| !x.rank(y).is_lt()).count()
 }

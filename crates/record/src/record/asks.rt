@@ -2,6 +2,7 @@
 ghost use Rattle.std.specs.Prelude.{◌≡◌, length};
 ghost use Rattle.record.specs.Look.{state};
 ghost use Rattle.rules.specs.Laws.{Lawful};
+ghost use Rattle.rules.specs.Members.{place_of};
 ghost use Rattle.rules.specs.Questions.{member_with, name_of, contribution_of, number_of};
 ghost use Rattle.std.specs.Option.{option_map};
 
@@ -60,13 +61,19 @@ impl Record {
     pub fn number(&self, name: Name) -> Option<usize>
         ensures { result ≡ number_of (state self.now) name }
     {
-        let named = Member {
-            name,
-            contribution: 0,
-        };
         match self.stage {
             Stage::Roll => None,
-            Stage::Auction | Stage::Settled => self.members.place_of(&named),
+            Stage::Auction | Stage::Settled => self.place_of(name),
         }
+    }
+
+    // The place on the roll of the member with this name.
+    pub(crate) fn place_of(&self, name: Name) -> Option<usize>
+        ensures { result ≡ place_of name (state self.now).members }
+    {
+        self.members.place_of(&Member {
+            name,
+            contribution: 0,
+        })
     }
 }

@@ -4,8 +4,8 @@ ghost use Rattle.report.specs.Left.{file_of, left, is_short, answered, written, 
 ghost use Rattle.report.specs.Statement.{statement};
 
 use crate::report::Report;
-use crate::report::lines::put_event;
 use callfile::reader::Reader;
+use lines::put::put_line;
 use record::record::Record;
 use rules::refusal::Refusal;
 use std::alloc::{AllocError, Global};
@@ -48,8 +48,8 @@ impl<'a> Report<'a> {
         if memory.len() < 32 {
             return Err(Refusal::ShortMemory);
         }
-        match self.next_event() {
-            Some(event) => Ok(put_event(memory, event)),
+        match self.next_line() {
+            Some(line) => Ok(put_line(memory, line)),
             None => Ok(None),
         }
     }

@@ -2,7 +2,7 @@ use Rattle.std.proofs.Common.{◌≡◌, ℕ, ◌+◌, ◌<◌, ◌≤◌, List,
 use Rattle.shares.specs.Sums.{total, at}
 use Rattle.shares.specs.Shares.{share}
 use Rattle.shares.proofs.Totals.{total_none, total_more, total_grows}
-use Rattle.shares.proofs.Rows.{row_more, row_rest}
+use Rattle.shares.proofs.Writing.{row_more, row_rest}
 use Rattle.shares.proofs.Sharing.{dealt_none, dealt_rises, share-behind}
 use Rattle.shares.proofs.write_shares.Goals as goal
 

@@ -1,35 +1,34 @@
-use Rattle.std.proofs.Common.{◌≡◌, ℕ, ◌*◌, ◌<◌, min, List, [], length, refl, ap, ◌∙◌, subst, arith}
+use Rattle.std.proofs.Common.{◌≡◌, ℕ, ◌*◌, ◌<◌, ◌≤◌, min, not, [], get_or, ap, ◌∙◌, arith, rules}
+use Rattle.shares.specs.Sums.{at}
 use Rattle.rules.specs.declared.member.Member.{Member}
-use Rattle.rules.specs.Minimums.{ceil, counted}
-use Rattle.auction.specs.Rows.{Row}
-use Rattle.auction.proofs.Asking.{base_some, counted_is, counted_low, asked}
-use Rattle.auction.proofs.Writing.{row_begun, row_more}
+use Rattle.rules.specs.Amounts.{when}
+use Rattle.rules.specs.Minimums.{ceil, is_excused}
+use Rattle.auction.proofs.Asking.{asked, base_some, counted_is, read_low}
 use Rattle.auction.proofs.minimums.ask.Goals as goal
 
--- the minimum of each member, on a base
-abbrev each : List Member → ℕ → ℕ → ℕ → ℕ → ℕ
-each members multiplier excused base a = min 1000000 (ceil (counted members excused a * multiplier * 1000) base)
+-- what is read past the end of the members
+abbrev past : Member
+past = record { name = record { bytes = [] }; contribution = 0 }
 
-pub loop-a-init : goal.loop-a-init
-loop-a-init c = (refl, row_begun 64 (each c.args.members.now c.args.multiplier c.args.excused c.sum_counted-base.result))
-
-pub minimum_of-requires : goal.minimum_of-requires
-minimum_of-requires c = record {
-  low = counted_low c.args.members.now c.args.excused c.loop-a.a (record { name = record { bytes = [] }; contribution = 0 }) c.counted_of.result (omega arith) c.requires.contributing c.counted_of.ensures;
-  most = c.requires.most;
-  some = omega (arith, c.sum_counted-base.ensures.is, base_some c.args.members.now c.args.multiplier c.args.excused c.requires);
-  small = c.sum_counted-base.ensures.small;
-}
-
-pub loop-a-preserved : goal.loop-a-preserved
-loop-a-preserved c =
-    let inside : c.loop-a.a < 64 = omega (arith, c.requires.few) in
-    row_more 64 (each c.args.members.now c.args.multiplier c.args.excused c.sum_counted-base.result) c.loop-a.row c.loop-a.a c.minimum_of.result c.loop-a.invariant.0 inside c.loop-a.invariant.1
-    (c.minimum_of.ensures ∙ ap (λ (n : ℕ). min 1000000 (ceil (n * c.args.multiplier * 1000) c.sum_counted-base.result))
-    (counted_is c.args.members.now c.args.excused c.loop-a.a (record { name = record { bytes = [] }; contribution = 0 }) c.counted_of.result (omega arith) c.requires.contributing c.counted_of.ensures))
+pub row_of-requires : goal.row_of-requires
+row_of-requires c =
+    let some : 0 < c.sum_counted-base.result = omega (arith, c.sum_counted-base.ensures.is, base_some c.args.members.now c.args.multiplier c.args.excused c.requires) in (
+      search rules,
+      (
+        λ a h.
+            let inside : a < 64 = omega (arith, c.requires.few) in
+            let low : (get_or c.args.members.now a past).contribution ≤ 25000000 = read_low c.args.members.now a past c.requires.contributing h in
+            search rules,
+        search rules,
+      ),
+    )
 
 pub returns : goal.returns
 returns c =
-    let e : c.loop-a.a ≡ length c.args.members.now = omega arith in
-    asked c.args.members.now c.args.multiplier c.args.excused c.sum_counted-base.result c.loop-a.row c.requires c.sum_counted-base.ensures.is
-    (subst (λ (n : ℕ). Row n (each c.args.members.now c.args.multiplier c.args.excused c.sum_counted-base.result) c.loop-a.row) e c.loop-a.invariant.1)
+    asked c.args.members.now c.args.multiplier c.args.excused c.sum_counted-base.result c.row_of.result c.requires c.sum_counted-base.ensures.is (record {
+      shows = λ a h.
+          let s = c.row_of.ensures.shows a h in
+          let e : at c.row_of.result a ≡ min 1000000 (ceil (when (not (is_excused c.args.excused a)) (get_or c.args.members.now a past).contribution * c.args.multiplier * 1000) c.sum_counted-base.result) = search rules in
+          e ∙ ap (λ (n : ℕ). min 1000000 (ceil (n * c.args.multiplier * 1000) c.sum_counted-base.result)) (counted_is c.args.members.now c.args.excused a past h);
+      blank = c.row_of.ensures.blank;
+    })

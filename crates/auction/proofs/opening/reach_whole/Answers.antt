@@ -1,14 +1,22 @@
-use Rattle.std.proofs.Common.{◌≤◌, sym, arith, below_more}
-use Rattle.shares.specs.Sums.{at}
-use Rattle.shares.proofs.Totals.{total_none, total_more}
+use Rattle.std.proofs.Common.{◌≡◌, ◌<◌, ◌≤◌, length, refl, sum, ◌∙◌, arith, rules}
+use Rattle.shares.specs.Sums.{at, total}
+use Rattle.shares.proofs.Sums.{sum_of_row}
+use Rattle.auction.specs.Rows.{Low}
+use Rattle.auction.proofs.Summing.{sum_low}
 use Rattle.auction.proofs.opening.reach_whole.Goals as goal
 
-pub loop-a-init : goal.loop-a-init
-loop-a-init c = (sym (total_none (at c.args.minimums.now)), omega arith, λ a l. absurd (omega arith))
+pub sum-requires-clause-fits : goal.sum-requires-clause-fits
+sum-requires-clause-fits c =
+    let low : Low (length c.args.minimums.now) c.args.minimums.now = c.are_low.ensures.yes c.if-are_low.true in
+    let fits : sum c.args.minimums.now < 18446744073709551616 = omega (arith, c.requires, sum_low (length c.args.minimums.now) c.args.minimums.now refl low) in
+    search rules
 
-pub loop-a-preserved : goal.loop-a-preserved
-loop-a-preserved c = (
-  omega (arith, total_more c.loop-a.a (at c.args.minimums.now)),
-  omega arith,
-  below_more (λ a. at c.args.minimums.now a ≤ 1000000) c.loop-a.a c.loop-a.invariant.2 (omega arith),
-)
+pub returns-then-are_low : goal.returns-then-are_low
+returns-then-are_low c =
+    let low : Low (length c.args.minimums.now) c.args.minimums.now = c.are_low.ensures.yes c.if-are_low.true in
+    let read : c.sum.result ≡ sum c.args.minimums.now = search rules in
+    let is : c.sum.result ≡ total (length c.args.minimums.now) (at c.args.minimums.now) = read ∙ sum_of_row c.args.minimums.now (length c.args.minimums.now) refl in
+    record {
+      yes = λ e. let h : 1000000 ≤ c.sum.result = search rules in (low, omega arith);
+      not = λ e _ reach. let h : c.sum.result < 1000000 = search rules in absurd (omega arith);
+    }

@@ -1,11 +1,8 @@
-use Rattle.std.proofs.Common.{ℕ, ◌+◌, List, get_or, take, sym, refl, subst, arith, take_all}
+use Rattle.std.proofs.Common.{ℕ, ◌+◌, List, get_or, take, sym, subst, arith, take_all}
 use Rattle.std.proofs.lemmas.List.{take_more}
 use Rattle.tiers.specs.Waterfall.{BearsEach}
 use Rattle.tiers.proofs.Settling.{bears_more, settled_each}
 use Rattle.tiers.proofs.waterfall.bear_losses.Goals as goal
-
-pub loop-loss-init : goal.loop-loss-init
-loop-loss-init g c = (omega arith, (refl, refl))
 
 pub loop-loss-preserved : goal.loop-loss-preserved
 loop-loss-preserved g c =

@@ -1,23 +1,12 @@
-use Rattle.std.proofs.Common.{◌≡◌, ℕ, ◌<◌, refl, subst, arith}
+use Rattle.std.proofs.Common.{arith, rules}
 use Rattle.shares.specs.Sums.{at}
 use Rattle.rules.specs.Residuals.{credit}
 use Rattle.auction.specs.Rows.{Row}
-use Rattle.auction.proofs.Writing.{row_begun, row_more}
+use Rattle.auction.proofs.Showing.{row_low}
 use Rattle.auction.proofs.orderly.OrderlyRound.credits.Goals as goal
-
-pub loop-a-init : goal.loop-a-init
-loop-a-init c = (refl, row_begun 64 (credit (at c.args.self.now.minimums) (at c.args.allotments.now)))
-
-pub loop-a-preserved : goal.loop-a-preserved
-loop-a-preserved c =
-    let inside : c.loop-a.a < 64 = omega (arith, c.args.self.now.seats) in
-    row_more 64 (credit (at c.args.self.now.minimums) (at c.args.allotments.now)) c.loop-a.row c.loop-a.a c.min.result c.loop-a.invariant.0 inside c.loop-a.invariant.1
-    (omega (arith, c.min.ensures, c.saturating_sub.ensures))
 
 pub returns : goal.returns
 returns c =
-    let e : c.loop-a.a ≡ c.args.self.now.members = omega arith in
-    record {
-      is = subst (λ (n : ℕ). Row n (credit (at c.args.self.now.minimums) (at c.args.allotments.now)) c.loop-a.row) e c.loop-a.invariant.1;
-      low = λ a l. omega (arith, c.loop-a.invariant.1.shows a (omega arith), c.args.self.now.low a l);
-    }
+    let is : Row c.args.self.now.round.members (credit (at c.args.self.now.round.minimums) (at c.args.allotments.now)) c.row_of.result =
+    record { shows = λ a h. let s = c.row_of.ensures.shows a h in search rules; blank = c.row_of.ensures.blank } in
+    record { is = is; low = row_low _ _ _ is (λ a h. omega (arith, c.args.self.now.orderly.low a h)) 64 }

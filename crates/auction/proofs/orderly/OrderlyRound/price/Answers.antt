@@ -1,27 +1,19 @@
-use Rattle.std.proofs.Common.{◌≡◌, ℕ, ◌-◌, ℤ, sym, ap, ◌∙◌, arith, w64, SFits, rules}
+use Rattle.std.proofs.Common.{ℕ, length, ℤ, sym, ◌∙◌, arith, w64, SFits, rules}
 use Rattle.std.proofs.lemmas.Int.{to_z-of_z}
-use Rattle.shares.specs.Sums.{at}
-use Rattle.rules.specs.Rounds.{bid_at, last_given}
-use Rattle.auction.proofs.Pricing.{last_here, last_before}
+use Rattle.rules.specs.Rounds.{bid_at}
+use Rattle.auction.proofs.Pricing.{none_given, one_given}
 use Rattle.auction.proofs.orderly.OrderlyRound.price.Goals as goal
 
-pub returns-then-givings-i-gt0 : goal.returns-then-givings-i-gt0
-returns-then-givings-i-gt0 c =
-    let price : ℕ → ℤ = λ i. (bid_at c.args.self.now.bids.now i).price in
-    let fits : SFits w64 (price (c.loop-i.i - 1)) = search rules in
-    to_z-of_z w64 (price (c.loop-i.i - 1)) fits
-    ∙ sym (last_here (at c.args.givings.now) price c.args.self.now.reference c.loop-i.i (omega arith) (omega arith))
-    ∙ sym c.loop-i.invariant
+pub returns-in-Some : goal.returns-in-Some
+returns-in-Some c =
+    let price : ℕ → ℤ = λ i. (bid_at c.args.self.now.round.bids.now i).price in
+    let fits : SFits w64 (price c.in-Some.last) = search rules in
+    to_z-of_z w64 (price c.in-Some.last) fits
+    ∙ sym (one_given c.args.givings.now price c.args.self.now.round.reference (length c.args.self.now.round.bids.now) (omega (arith, c.args.self.now.orderly.few)) c.in-Some.last c.in-Some.ensures)
 
-pub loop-i-preserved : goal.loop-i-preserved
-loop-i-preserved c =
-    let price : ℕ → ℤ = λ i. (bid_at c.args.self.now.bids.now i).price in
-    c.loop-i.invariant ∙ last_before (at c.args.givings.now) price c.args.self.now.reference c.loop-i.i (omega arith) (omega arith)
-
-pub returns : goal.returns
-returns c =
-    let price : ℕ → ℤ = λ i. (bid_at c.args.self.now.bids.now i).price in
-    let fits : SFits w64 c.args.self.now.reference = search rules in
-    let e : c.loop-i.i ≡ 0 = omega arith in
-    to_z-of_z w64 c.args.self.now.reference fits
-    ∙ sym (c.loop-i.invariant ∙ ap (λ (n : ℕ). last_given (at c.args.givings.now) price c.args.self.now.reference n) e)
+pub returns-in-None : goal.returns-in-None
+returns-in-None c =
+    let price : ℕ → ℤ = λ i. (bid_at c.args.self.now.round.bids.now i).price in
+    let fits : SFits w64 c.args.self.now.round.reference = search rules in
+    to_z-of_z w64 c.args.self.now.round.reference fits
+    ∙ sym (none_given c.args.givings.now price c.args.self.now.round.reference (length c.args.self.now.round.bids.now) (omega (arith, c.args.self.now.orderly.few)) c.in-None.ensures)

@@ -1,35 +1,33 @@
-use Rattle.std.proofs.Common.{◌≡◌, ℕ, ◌+◌, ◌-◌, ◌<◌, min, List, refl, subst, arith}
+use Rattle.std.proofs.Common.{ℕ, ◌+◌, ◌-◌, ◌<◌, ◌≤◌, arith, rules}
 use Rattle.shares.specs.Sums.{at}
-use Rattle.auction.specs.Rows.{Row}
 use Rattle.auction.proofs.Raising.{raised}
+use Rattle.auction.proofs.Summing.{total_low}
 use Rattle.auction.proofs.Spreading.{spread_low}
-use Rattle.auction.proofs.Writing.{row_begun, row_more}
 use Rattle.auction.proofs.orderly.OrderlyRound.raise.Goals as goal
 
-abbrev each : List ℕ → List ℕ → List ℕ → ℕ → ℕ
-each minimums credits rises a = min 1000000 (at minimums a - at credits a + at rises a)
+pub sum_of-requires : goal.sum_of-requires
+sum_of-requires c = omega (arith, total_low c.credits-credits.result c.credits-credits.ensures.low)
 
-pub loop-a-init : goal.loop-a-init
-loop-a-init c = (refl, row_begun 64 (each c.args.self.now.minimums c.credits-credits.result c.shares_of-rises.result))
+pub sum_of-requires-2 : goal.sum_of-requires-2
+sum_of-requires-2 c = omega (arith, total_low c.rising-rising.result c.rising-rising.ensures.low)
 
-pub overflow_add-self : goal.overflow_add-self
-overflow_add-self c =
-    omega (
+pub row_of-requires : goal.row_of-requires
+row_of-requires c =
+    let under : (a : ℕ) → a < c.args.self.now.round.members → at c.credits-credits.result a ≤ at c.args.self.now.round.minimums a =
+    λ a h. omega (arith, c.credits-credits.ensures.is.shows a h) in
+    let fits : (a : ℕ) → a < c.args.self.now.round.members → at c.args.self.now.round.minimums a - at c.credits-credits.result a + at c.shares_of-rises.result a < 18446744073709551616 =
+    λ a h. let inside : a < 64 = omega (arith, c.args.self.now.orderly.seats) in omega (
       arith,
-      c.args.self.now.low c.loop-a.a (omega arith),
-      c.sum_of-all.ensures.small,
-      spread_low c.sum_of-all.result c.sum_of-base.result c.args.self.now.members (at c.rising-rising.result) c.shares_of-rises.result (omega (arith, c.sum_of-base.ensures.is)) c.shares_of-rises.ensures c.loop-a.a (omega arith),
-    )
-
-pub loop-a-preserved : goal.loop-a-preserved
-loop-a-preserved c =
-    let inside : c.loop-a.a < 64 = omega (arith, c.args.self.now.seats) in
-    row_more 64 (each c.args.self.now.minimums c.credits-credits.result c.shares_of-rises.result) c.loop-a.row c.loop-a.a c.min.result c.loop-a.invariant.0 inside c.loop-a.invariant.1
-    (omega (arith, c.min.ensures))
+      c.args.self.now.orderly.low a h,
+      c.sum_of.ensures,
+      total_low c.credits-credits.result c.credits-credits.ensures.low,
+      c.shares_of-rises.ensures a,
+      spread_low c.sum_of.result c.sum_of-2.result 64 (at c.rising-rising.result) (omega (arith, c.sum_of-2.ensures)) a inside,
+    ) in
+    search rules
 
 pub returns : goal.returns
 returns c =
-    let e : c.loop-a.a ≡ c.args.self.now.members = omega arith in
-    raised c.args.self.now.members (at c.args.self.now.minimums) (at c.args.allotments.now) c.credits-credits.result c.rising-rising.result c.shares_of-rises.result c.loop-a.row
-    c.sum_of-all.result c.sum_of-base.result c.credits-credits.ensures.is c.rising-rising.ensures.is c.sum_of-all.ensures.is c.sum_of-base.ensures.is c.shares_of-rises.ensures
-    (subst (λ (n : ℕ). Row n (each c.args.self.now.minimums c.credits-credits.result c.shares_of-rises.result) c.loop-a.row) e c.loop-a.invariant.1)
+    raised c.args.self.now.round.members (at c.args.self.now.round.minimums) (at c.args.allotments.now) c.credits-credits.result c.rising-rising.result c.shares_of-rises.result c.row_of.result
+    c.sum_of.result c.sum_of-2.result c.args.self.now.orderly.seats c.credits-credits.ensures.is c.rising-rising.ensures.is c.sum_of.ensures c.sum_of-2.ensures c.shares_of-rises.ensures
+    (record { shows = λ a h. let s = c.row_of.ensures.shows a h in search rules; blank = c.row_of.ensures.blank })

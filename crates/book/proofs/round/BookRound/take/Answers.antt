@@ -1,19 +1,16 @@
-use Rattle.std.proofs.Common.{◌∙◌}
+use Rattle.std.proofs.Common.{List, sym, subst, arith}
 use Rattle.ranked.specs.Table.{listed}
-use Rattle.book.specs.HeldRounds.{round_held}
-use Rattle.book.proofs.Joined.{taking, joining, open_still}
+use Rattle.rules.specs.declared.bid.Bid.{Bid}
+use Rattle.rules.specs.Rounds.{OfMembers}
+use Rattle.rules.proofs.Soundness.{prices_fall}
+use Rattle.book.proofs.Joined.{arrived_by, in_order, known_arrive}
 use Rattle.book.proofs.round.BookRound.take.Goals as goal
 
-pub invariant_of-self : goal.invariant_of-self
-invariant_of-self c =
+pub invariant_of-self-clause-known : goal.invariant_of-self-clause-known
+invariant_of-self-clause-known c =
     let old = c.args.self.now in
-    let j = joining c.args.bid (round_held old) c.insert-place.result old.bids.limit (listed c.insert-place.new.self) c.requires old.room old.known old.ranked
-    c.insert-place.ensures.in_order c.insert-place.ensures.arrived in
-    let t = taking c.args.bid (round_held old) c.requires in
-    record { places = old.places; room = c.insert-place.ensures.limit ∙ old.room; seats = old.seats; low = old.low; spare = old.spare; covered = old.covered; known = j.known; ranked = j.falls; within = old.within; divided = open_still _ _ _ _ _ _ _ _ t.open_yet }
+    let is = arrived_by c.args.bid c.insert.result old.bids.limit (listed old.bids) (listed c.insert.new.self) (omega (arith, old.room)) c.insert.ensures.arrived in
+    subst (λ (xs : List Bid). OfMembers old.terms.members xs) (sym is) (known_arrive old.terms.members c.args.bid (listed old.bids) (omega arith) old.known)
 
-pub returns : goal.returns
-returns c =
-    let old = c.args.self.now in
-    (joining c.args.bid (round_held old) c.insert-place.result old.bids.limit (listed c.insert-place.new.self) c.requires old.room old.known old.ranked
-    c.insert-place.ensures.in_order c.insert-place.ensures.arrived).is
+pub invariant_of-self-clause-ranked : goal.invariant_of-self-clause-ranked
+invariant_of-self-clause-ranked c = prices_fall (listed c.insert.new.self) (c.insert.ensures.in_order (in_order (listed c.args.self.now.bids) c.args.self.now.ranked))

@@ -45,7 +45,9 @@ impl<'a> OrderlyRound<'a> {
     {
         let mut sum = 0;
         for bid in bids {
-            sum += if_so(test(bid), self.market_size(bid));
+            if test(bid) {
+                sum += self.market_size(bid);
+            }
         }
         sum
     }

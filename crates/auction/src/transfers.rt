@@ -15,7 +15,12 @@ pub(crate) fn transfers(price: i64, allotments: &[u64; 64]) -> [i64; 64]
     ensures { (a : ℕ) → at_z result a ≡ signed_as price (share (unsigned_abs price) all_parts (at allotments.now) a) }
 {
     let sizes = shares_of(price.unsigned_abs(), ALL_PARTS, allotments);
-    sizes.map(|size| signed_as(price, size))
+    // Not `map` of the array: it took longer.
+    let mut row = [0; 64];
+    for (a, size) in sizes.iter().enumerate() {
+        row[a] = signed_as(price, *size);
+    }
+    row
 }
 
 // A size with the sign of a price put back.

@@ -8,7 +8,7 @@ ghost use Rattle.tiers.specs.Piles.{Alike, Tells};
 use backward::Backward;
 use rules::refusal::Refusal;
 use shares::rows::row_of;
-use std::{array, io};
+use std::io;
 use tiers::above::Above;
 use tiers::in_turn::InTurn;
 use tiers::pro_rata::ProRata;
@@ -64,7 +64,12 @@ fn told_account<P: Tier>(pile: &P, number: u8) -> Balance
 fn told_accounts<P: Tier>(pile: &P) -> [Balance; 64]
     ensures { (a : ℕ) → a < 64 → Tells (P.meaning pile.now) a (Some (slice_index_or result a untold)) }
 {
-    array::from_fn(|a| told_account(pile, a as u8))
+    // Not `array::from_fn`: it took longer.
+    let mut accounts = [Balance { left: 0, borne: 0 }; 64];
+    for (a, account) in accounts.iter_mut().enumerate() {
+        *account = told_account(pile, a as u8);
+    }
+    accounts
 }
 
 fn main(rt: HostRuntime) -> io::Result<()> {

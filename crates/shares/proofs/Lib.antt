@@ -1,5 +1,4 @@
 pub mod Totals
 pub mod Writing
 pub mod Sharing
-pub mod Turns
 pub mod Sums

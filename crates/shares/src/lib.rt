@@ -34,6 +34,18 @@ fn dealt_to(amount: u64, base: u64, sum: u64) -> u64
     (u128::from(amount) * u128::from(sum) / u128::from(base)) as u64
 }
 
+// What goes to the weights up to this one, if `given` goes to those before it: a weight of 0 is not worth a division.
+fn dealt_past(amount: u64, base: u64, after: u64, weight: u64, given: u64) -> u64
+    requires within { after ≤ base }
+    requires before { weight ≡ 0 → given ≡ dealt amount base after }
+    ensures { result ≡ dealt amount base after }
+{
+    if weight == 0 {
+        return given;
+    }
+    dealt_to(amount, base, after)
+}
+
 // Why weights are not shared out.
 #[derive(Clone, Copy, PartialEq, Eq, Debug)]
 pub enum Unshared {
@@ -86,7 +98,7 @@ fn write_shares(amount: u64, base: u64, weights: &[u64], shares: &mut [u64])
     // Not `zip` with `iter_mut`: nothing is known then of what was written.
     for (i, weight) in weights.iter().enumerate() {
         let after = before + *weight;
-        let next = dealt_to(amount, base, after);
+        let next = dealt_past(amount, base, after, *weight, given);
         shares[i] = next - given;
         given = next;
         before = after;

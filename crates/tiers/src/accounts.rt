@@ -5,7 +5,7 @@ ghost use Rattle.shares.specs.Sums.{total, at};
 ghost use Rattle.tiers.specs.Charging.{Charged};
 ghost use Rattle.tiers.specs.Piles.{Tells};
 
-use crate::tier::Balance;
+use crate::tier::{Balance, nothing};
 use rules::refusal::Refusal;
 use shares::rows::sum_of;
 
@@ -90,7 +90,12 @@ impl Accounts {
         ensures sum { total 64 (at result) ≡ total 64 (left_of self.now.each) }
         ensures small { total 64 (at result) ≤ 640000000000 }
     {
-        self.each.map(|account| account.left())
+        // Not `map` of the array, which copies the table first and took ten times as long.
+        let mut left = nothing();
+        for (a, account) in self.each.iter().enumerate() {
+            left[a] = account.left();
+        }
+        left
     }
 
     // What is left in all.

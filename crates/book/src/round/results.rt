@@ -58,7 +58,10 @@ impl BookRound {
     pub(crate) fn fraction(&self, member: usize) -> Option<u64>
         ensures { MatchOption result ((round_held self.now).round.members ≤ member) (λ f. (member < (round_held self.now).round.members) × (f ≡ round_fraction (round_held self.now).round member) × (f ≤ all_parts)) }
     {
+        if member >= self.terms.members {
+            return None;
+        }
         let row = self.data().fractions().unwrap();
-        row[..self.terms.members].get(member).copied()
+        Some(row[member])
     }
 }

@@ -1,6 +1,6 @@
-use Rattle.std.proofs.Common.{◌≡◌, ℕ, ◌+◌, ◌<◌, ◌≤◌, List, length, sym, refl, arith}
+use Rattle.std.proofs.Common.{◌≡◌, ℕ, ◌+◌, ◌<◌, ◌≤◌, List, length, sym, refl, ap, ◌∙◌, arith}
 use Rattle.shares.specs.Sums.{total, at}
-use Rattle.shares.specs.Shares.{share}
+use Rattle.shares.specs.Shares.{dealt, share}
 use Rattle.shares.proofs.Totals.{total_none, total_more, total_grows}
 use Rattle.shares.proofs.Writing.{row_more, row_rest}
 use Rattle.shares.proofs.Sharing.{dealt_none, dealt_rises, share-behind}
@@ -23,9 +23,10 @@ pub overflow_add-after : goal.overflow_add-after
 overflow_add-after c =
     omega (arith, more_within c.args.weights.now c.args.base c.loop-i.i c.loop-i.before c.requires.within (omega arith) (omega arith))
 
-pub dealt_to-next-requires : goal.dealt_to-next-requires
-dealt_to-next-requires c = record {
+pub dealt_past-next-requires : goal.dealt_past-next-requires
+dealt_past-next-requires c = record {
   within = omega (arith, more_within c.args.weights.now c.args.base c.loop-i.i c.loop-i.before c.requires.within (omega arith) (omega arith));
+  before = λ none. c.loop-i.invariant.1 ∙ ap (dealt c.args.amount c.args.base) (omega (arith, none));
 }
 
 pub overflow_sub-shares : goal.overflow_sub-shares
@@ -39,7 +40,7 @@ loop-i-preserved c =
     let room : i < length c.loop-i.shares = omega (arith, c.requires.room) in
     let here = share-behind c.args.amount c.args.base c.loop-i.before (w i) w i (sym c.loop-i.invariant.0) refl in (
       omega (arith, total_more i w),
-      c.dealt_to-next.ensures,
+      c.dealt_past-next.ensures,
       row_more (share c.args.amount c.args.base w) c.loop-i.shares i _ room (omega arith) c.loop-i.invariant.2,
       row_rest c.args.shares.now c.loop-i.shares i _ c.loop-i.invariant.3,
     )

@@ -1,14 +1,14 @@
-use Rattle.std.proofs.Common.{rules, arith}
+use Rattle.std.proofs.Common.{arith}
 use Rattle.shares.specs.Sums.{at}
 use Rattle.shares.proofs.Totals.{total_same, total_bound}
-use Rattle.tiers.specs.Tables.{no_account, account_at, left_of}
+use Rattle.tiers.specs.Tables.{account_at, left_of}
 use Rattle.tiers.proofs.accounts.Accounts.left.Goals as goal
 
 pub returns-clause-each : goal.returns-clause-each
-returns-clause-each c = λ a h. let w = c.map.ensures.items.at a no_account 0 h in search rules
+returns-clause-each c = λ a h. c.loop-a.invariant.1 a (omega arith)
 
 pub returns-clause-sum : goal.returns-clause-sum
-returns-clause-sum c = total_same 64 (at c.map.result) (left_of c.args.self.now.each) (returns-clause-each c)
+returns-clause-sum c = total_same 64 (at c.loop-a.left) (left_of c.args.self.now.each) (returns-clause-each c)
 
 pub returns-clause-small : goal.returns-clause-small
 returns-clause-small c =

@@ -15,7 +15,7 @@ pub(crate) fn transfers(price: i64, allotments: &[u64; 64]) -> [i64; 64]
     ensures { (a : ℕ) → at_z result a ≡ signed_as price (share (unsigned_abs price) all_parts (at allotments.now) a) }
 {
     let sizes = shares_of(price.unsigned_abs(), ALL_PARTS, allotments);
-    // Not `map` of the array: it took longer.
+    // Not `map` of the array, which was timed slower (docs/DESIGN-PASS.md).
     let mut row = [0; 64];
     for (a, size) in sizes.iter().enumerate() {
         row[a] = signed_as(price, *size);

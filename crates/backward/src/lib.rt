@@ -42,7 +42,7 @@ impl Backward {
         ensures left { (a : ℕ) → a < 64 → left_of result.accounts a ≡ at left a }
         ensures borne { (a : ℕ) → a < 64 → borne_of result.accounts a ≡ 0 }
     {
-        // Not `map` of the array: it took three times as long.
+        // Not `map` of the array, which was timed slower (docs/DESIGN-PASS.md).
         let mut accounts = [Account { left: 0, borne: 0 }; 64];
         for (a, account) in accounts.iter_mut().enumerate() {
             *account = Account {

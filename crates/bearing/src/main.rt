@@ -64,7 +64,7 @@ fn told_account<P: Tier>(pile: &P, number: u8) -> Balance
 fn told_accounts<P: Tier>(pile: &P) -> [Balance; 64]
     ensures { (a : ℕ) → a < 64 → Tells (P.meaning pile.now) a (Some (slice_index_or result a untold)) }
 {
-    // Not `array::from_fn`: it took longer.
+    // Not `array::from_fn`, which was timed slower (docs/DESIGN-PASS.md).
     let mut accounts = [Balance { left: 0, borne: 0 }; 64];
     for (a, account) in accounts.iter_mut().enumerate() {
         *account = told_account(pile, a as u8);

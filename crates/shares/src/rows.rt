@@ -10,7 +10,7 @@ pub fn row_of<const N: usize, F: Fn(usize) -> u64>(count: usize, f: F) -> [u64; 
     ensures shows { (a : ℕ) → a < count → F.post f a (at result a) }
     ensures blank { (a : ℕ) → count ≤ a → at result a ≡ 0 }
 {
-    // Not `array::from_fn`: it asks for each of the N places, and a row of a few took three times as long.
+    // Not `array::from_fn`: it makes a call for each of the N places, which was timed slower (docs/DESIGN-PASS.md).
     let mut row = [0; N];
     for a in 0..count {
         row[a] = f(a);

@@ -90,7 +90,7 @@ impl Accounts {
         ensures sum { total 64 (at result) ≡ total 64 (left_of self.now.each) }
         ensures small { total 64 (at result) ≤ 640000000000 }
     {
-        // Not `map` of the array, which copies the table first and took ten times as long.
+        // Not `map` of the array: it copies the table first, which was timed slower (docs/DESIGN-PASS.md).
         let mut left = nothing();
         for (a, account) in self.each.iter().enumerate() {
             left[a] = account.left();

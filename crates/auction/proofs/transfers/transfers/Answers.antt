@@ -1,10 +1,11 @@
-use Rattle.std.proofs.Common.{◌≡◌, ℕ, ◌<◌, ◌≤◌, ◌≢◌, length, set, ℤ, pos, nat_abs, inl, inr, refl, ap, ◌∙◌, sym, arith, w64, SFits, to_z, of_z, length-set, get_or-set_other, get_or-set_same, below_more}
+use Rattle.std.proofs.Common.{◌≡◌, ℕ, ◌<◌, ◌≤◌, length, ℤ, pos, nat_abs, inl, inr, refl, ap, ◌∙◌, sym, arith, w64, SFits, to_z, of_z, length-set}
 use Rattle.std.proofs.lemmas.Bool.{cases_lt}
 use Rattle.std.proofs.lemmas.List.{get_or_past}
 use Rattle.std.proofs.lemmas.Int.{to_z-of_z}
 use Rattle.shares.specs.Sums.{at, total}
 use Rattle.shares.specs.Shares.{share}
 use Rattle.shares.proofs.Sharing.{share_weightless}
+use Rattle.shares.proofs.Writing.{places_more}
 use Rattle.rules.specs.Amounts.{signed_as}
 use Rattle.rules.specs.Minimums.{all_parts}
 use Rattle.auction.specs.Rows.{at_z}
@@ -29,9 +30,7 @@ loop-a-preserved c =
     let fits : SFits w64 c.signed_as.result = record { sfits = c.signed_as.type_inv } in
     let inside : i < length row = omega (arith, c.loop-a.invariant.0) in (
       length-set row i x ∙ c.loop-a.invariant.0,
-      below_more (λ k. at_z (set row i x) k ≡ each k) i
-          (λ k h. let ne : k ≢ i = omega arith in get_or-set_other row i k x (pos 0) ne ∙ c.loop-a.invariant.1 k h)
-          (get_or-set_same row i x (pos 0) inside ∙ to_z-of_z w64 c.signed_as.result fits ∙ c.signed_as.ensures),
+      places_more (pos 0) each row i x inside (to_z-of_z w64 c.signed_as.result fits ∙ c.signed_as.ensures) c.loop-a.invariant.1,
     )
 
 pub returns : goal.returns
